@@ -1,0 +1,46 @@
+-- Document 01's number and values for each case of each answer.
+use Prim.Native.Nat.{ℕ}
+use Rattle.report.specs.declared.Numbers.{Numbers}
+use Rattle.report.specs.declared.Place.{Place}
+use Rattle.report.specs.declared.Place.the-variants.{File, Record, RecordKind, FileOffset, NodesLength, Node, NodeUses, ChartHeader, Transition, LabelsLength, Unreached, BranchCycle, LoopNoReturn, LoopEndInside, LoopNotLower, RelationLength, PairNoVertex, PairStarts, PairEnds, PairExpressionStep, PairChartStep, OutputLength}
+use Rattle.report.specs.declared.Verdict.{Verdict}
+use Rattle.report.specs.declared.Verdict.the-variants as verdict
+use Rattle.report.specs.declared.Written.{Written}
+use Rattle.report.specs.declared.Written.the-variants as written
+
+abbrev pub four : ℕ → ℕ → ℕ → ℕ → Numbers
+four n p q r = record { n = n; p = p; q = q; r = r }
+
+abbrev pub placeNumbers : Place → Numbers
+placeNumbers File = four 1 0 0 0
+placeNumbers (Record p) = four 2 p 0 0
+placeNumbers (RecordKind p q) = four 3 p q 0
+placeNumbers (FileOffset p) = four 4 p 0 0
+placeNumbers (NodesLength p) = four 10 p 0 0
+placeNumbers (Node p) = four 11 p 0 0
+placeNumbers (NodeUses p q) = four 12 p q 0
+placeNumbers ChartHeader = four 20 0 0 0
+placeNumbers (Transition p) = four 21 p 0 0
+placeNumbers (LabelsLength p) = four 30 p 0 0
+placeNumbers (Unreached p) = four 31 p 0 0
+placeNumbers (BranchCycle p) = four 32 p 0 0
+placeNumbers (LoopNoReturn p q) = four 33 p q 0
+placeNumbers (LoopEndInside p q) = four 34 p q 0
+placeNumbers (LoopNotLower p q r) = four 35 p q r
+placeNumbers (RelationLength p) = four 40 p 0 0
+placeNumbers (PairNoVertex p q) = four 41 p q 0
+placeNumbers (PairStarts p q) = four 42 p q 0
+placeNumbers (PairEnds p q) = four 43 p q 0
+placeNumbers (PairExpressionStep p q r) = four 44 p q r
+placeNumbers (PairChartStep p q r) = four 45 p q r
+placeNumbers (OutputLength p) = four 54 p 0 0
+
+-- nothing refused: 0, and the counts
+abbrev pub verdictNumbers : Verdict → Numbers
+verdictNumbers (verdict.Accepted v t l) = four 0 v t l
+verdictNumbers (verdict.Refused place) = placeNumbers place
+
+-- nothing refused: 0, and the length
+abbrev pub writtenNumbers : Written → Numbers
+writtenNumbers (written.Length length) = four 0 length 0 0
+writtenNumbers (written.Refused place) = placeNumbers place

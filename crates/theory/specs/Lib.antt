@@ -1,0 +1,20 @@
+-- The definitions: 001's notions first, then what document 01 says by them.
+pub mod Paths
+pub mod Charts
+pub mod LoopCharts
+pub mod Witnesses
+pub mod Least
+pub mod Checks
+pub mod Standing
+pub mod Removals
+pub mod Orders
+pub mod Systems
+pub mod Expressions
+pub mod Rules
+pub mod Ascending
+pub mod Transitions
+pub mod Derivatives
+pub mod Nodes
+pub mod ExpressionCharts
+pub mod Followers
+pub mod Runs

@@ -1,0 +1,24 @@
+-- Orders in which all loops of a labelled chart are taken out.
+use mathlib.Core.Logic.{_≢_}
+use mathlib.Core.List.{List, [], _∷_, List·Memᴰ}
+use Prim.Native.Nat.{ℕ}
+use Rattle.theory.specs.Paths.{Plus}
+use Rattle.theory.specs.Charts.{Steps, Loop}
+use Rattle.theory.specs.LoopCharts.{InLoop}
+
+-- no member stands twice
+pub data Distinct : List (ℕ × ℕ) → Type 0 where
+  none : Distinct []
+  one : {x : ℕ × ℕ} {xs : List (ℕ × ℕ)} → ¬ List·Memᴰ x xs → Distinct xs → Distinct (x ∷ xs)
+
+-- x stands before y
+pub data Before (x y : ℕ × ℕ) : List (ℕ × ℕ) → Type 0 where
+  at-head : {xs : List (ℕ × ℕ)} → List·Memᴰ y xs → Before x y (x ∷ xs)
+  further : {z : ℕ × ℕ} {xs : List (ℕ × ℕ)} → Before x y xs → Before x y (z ∷ xs)
+
+-- an order of all loops: each loop once, after every loop that starts inside its body, its own start aside
+pub record Order (S : Steps) (xs : List (ℕ × ℕ)) : Type 0 where
+  pub every : (v l : ℕ) → Loop S v l → List·Memᴰ (v, l) xs
+  pub only : (v l : ℕ) → List·Memᴰ (v, l) xs → Loop S v l
+  pub once : Distinct xs
+  pub waits : (v l w m : ℕ) → Loop S v l → Loop S w m → w ≢ v → Plus (InLoop S v l) v w → Before (w, m) (v, l) xs

@@ -1,0 +1,18 @@
+-- Transition systems, of which charts are instances, and bisimulations between them (001, section 2).
+use mathlib.Core.Logic.{_↔_}
+use Prim.Native.Nat.{ℕ}
+
+pub record System : Type 1 where
+  pub State : Type 0
+  pub start : State
+  -- the state is the end
+  pub End : State → Type 0
+  -- the action leads from the first state to the second
+  pub Step : State → ℕ → State → Type 0
+
+-- a relation between the states of two systems, checked both ways: starts related, an end only with an end, each step matched
+pub record Bisimulation (M N : System) (R : M .State → N .State → Type 0) : Type 0 where
+  pub starts : R (M .start) (N .start)
+  pub ends : (x : M .State) (y : N .State) → R x y → M .End x ↔ N .End y
+  pub forth : (x : M .State) (y : N .State) → R x y → (a : ℕ) (x′ : M .State) → M .Step x a x′ → (y′ : N .State) × N .Step y a y′ × R x′ y′
+  pub back : (x : M .State) (y : N .State) → R x y → (a : ℕ) (y′ : N .State) → N .Step y a y′ → (x′ : M .State) × M .Step x a x′ × R x′ y′

@@ -1,0 +1,19 @@
+-- A chart given by the list of its transitions.
+use mathlib.Core.Path.{_≡_}
+use mathlib.Core.Bool.{Bool, _&&_, _||_}
+use mathlib.Core.List.{List, List·Memᴰ}
+use Prim.Native.Nat.{ℕ}
+use lib.Dec.{eqb, ltb}
+use Rattle.theory.specs.Systems.{System}
+
+-- from, action, to
+abbrev pub Transition : Type 0
+Transition = ℕ × ℕ × ℕ
+
+-- by from, then action, then to
+unfoldable pub precedes : Transition → Transition → Bool
+precedes x y = ltb (x .0) (y .0) || (eqb (x .0) (y .0) && (ltb (x .1) (y .1) || (eqb (x .1) (y .1) && ltb (x .2) (y .2))))
+
+-- the chart with this start; vertex 0 is the end
+abbrev pub chart : ℕ → List Transition → System
+chart start ts = record { State = ℕ; start = start; End = λ v. v ≡ 0; Step = λ u a w. List·Memᴰ (u, a, w) ts }
