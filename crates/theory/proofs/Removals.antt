@@ -1,0 +1,181 @@
+-- A list of removals over a chart that passed answers, and leaves, what the plain set does.
+use mathlib.Core.Path.{_≡_, refl, sym, _∙_, ap₂, subst}
+use mathlib.Core.Logic.{_≢_, _⊎_, inl, inr, _↔_}
+use mathlib.Core.List.{List, [], _∷_}
+use Prim.Native.Nat.{ℕ, zero, suc, _<_}
+use native.Mathlib.Omega.{arith}
+use native.Mathlib.Decide.{ℕ-discrete}
+use Rattle.theory.specs.Paths.{Star, Endless, Returns}
+use Rattle.theory.specs.Charts.{Steps, Formed, Listed, Any, Loop}
+use Rattle.theory.specs.LoopCharts.{Around, LoopChart, Judged, loop, broken-L1, broken-L2, broken-L3}
+use Rattle.theory.specs.Checks.{Passed}
+use Rattle.theory.specs.Standing.{Loops, Standing, Inside}
+use Rattle.theory.specs.Removals.{Answer, done, refused-51, refused-52, Removes, Plain, left-steps, left-loops, RemovesAll, PlainAll}
+use Rattle.theory.proofs.Paths.{endless-map}
+use Rattle.theory.proofs.Decide.{dec-map, dec-both, dec-below, dec-not}
+use Rattle.theory.proofs.Rounds.{round-map, round-below, decide-round, loop-chart-map}
+use Rattle.theory.proofs.Judge.{judge, plus-below}
+use Rattle.theory.proofs.Checks.{loop-to}
+use Rattle.theory.proofs.Outcomes.{decide-loop, decide-body}
+use Rattle.theory.proofs.Removal.{taken-L1, inside-not-L2, taken-loop-chart}
+
+-- R is what stands of S while the loops of X remain
+abbrev pub Agree : Steps → Loops → Steps → Type 0
+Agree S X R = (u l w : ℕ) → R u l w ↔ Standing S X u l w
+
+-- at first all transitions stand and all loops remain
+pub agree-at-first : (S : Steps) → Agree S (Loop S) S
+agree-at-first S u l w = ((λ e. (e, go (ℕ-discrete l 0) e)), (λ e. e .0))
+  where
+    go : Dec (l ≡ 0) → S u l w → (l ≡ 0) ⊎ Loop S u l
+    go (yes z) e = inl z
+    go (no z) e = inr (omega arith, w, e)
+
+module _ {size : ℕ} {S : Steps} (formed : Formed size S) (passed : Passed S) where
+  module _ {X : Loops} {R : Steps} (loops : (v l : ℕ) → X v l → Loop S v l) (agree : Agree S X R) (v l : ℕ) where
+    stands : X v l → Loop R v l
+    stands x = let (h, w, e) = loops v l x in (h, w, (agree v l w) .1 (e, inr x))
+
+    remains : Loop R v l → X v l
+    remains (h, w, e) = elim (((agree v l w) .0 e) .1) [ inl z ↦ absurd (omega arith) | inr x ↦ x ]
+
+    same : (u w : ℕ) → Around R v l u w ↔ Around (Standing S X) v l u w
+    same u w = (
+      round-map (λ y. (agree v l y) .0) (λ a b (m, e). (m, (agree a m b) .0 e)) u w,
+      round-map (λ y. (agree v l y) .1) (λ a b (m, e). (m, (agree a m b) .1 e)) u w,
+    )
+
+    -- what the plain set answers, the rule answers
+    pub rule-of : {a : Answer} → Plain S X v l a → Removes R v l a
+    rule-of (Plain.absent h) = Removes.absent (λ o. h (remains o))
+    rule-of (Plain.inner x i) = Removes.breaks-L2 (stands x)
+        (endless-map (λ u w. (same u w) .1) (taken-L1 formed passed X loops v l x))
+        (λ back. inside-not-L2 formed passed X loops v l x i (λ p. back (endless-map (λ u w. (same u w) .1) p)))
+    rule-of (Plain.goes x n) = Removes.goes (stands x) (loop-chart-map (λ u w. ((same u w) .1, (same u w) .0)) (taken-loop-chart formed passed X loops v l x n))
+
+    -- and what a call leaves agrees again
+    pub left-agree : (a : Answer) → Plain S X v l a → Agree S (left-loops a v l X) (left-steps a v l R)
+    left-agree done (Plain.goes y n) u m w = (
+      (λ (e, g). let (s, c) = (agree u m w) .0 e in (s, elim c [ inl z ↦ inl z | inr x ↦ inr (x, g) ])),
+      (λ (s, c). elim c [ inl z ↦ ((agree u m w) .1 (s, inl z), (λ e. omega (arith, e .1, (loops v l y) .0))) | inr x ↦ ((agree u m w) .1 (s, inr (x .0)), x .1) ]),
+    )
+    left-agree (refused-51 p q) h u m w = agree u m w
+    left-agree (refused-52 p q r) h u m w = agree u m w
+
+    pub left-loops-are : (a : Answer) (u m : ℕ) → left-loops a v l X u m → Loop S u m
+    left-loops-are done u m x = loops u m (x .0)
+    left-loops-are (refused-51 p q) u m x = loops u m x
+    left-loops-are (refused-52 p q r) u m x = loops u m x
+
+-- THE RULE HAS ONE ANSWER: x where P fails, else A's
+One : (Answer → Type 0) → Type 0
+One A = (a b : Answer) → A a → A b → a ≡ b
+
+abbrev Else : Type 0 → Answer → (Answer → Type 0) → Answer → Type 0
+Else P x A a = ((a ≡ x) × ¬ P) ⊎ (P × A a)
+
+else-one : (P : Type 0) (x : Answer) (A : Answer → Type 0) → One A → One (Else P x A)
+unfolding One
+else-one P x A h a b (inl p) (inl q) = p .0 ∙ sym (q .0)
+else-one P x A h a b (inl p) (inr q) = absurd (p .1 (q .0))
+else-one P x A h a b (inr p) (inl q) = absurd (q .1 (p .0))
+else-one P x A h a b (inr p) (inr q) = h a b (p .1) (q .1)
+
+abbrev Chain : Steps → ℕ → ℕ → Answer → Type 0
+Chain R v l =
+    Else (Loop R v l) (refused-51 v l)
+    (Else (Endless (Around R v l) v) (refused-52 v l 1)
+    (Else (Returns (Around R v l) v) (refused-52 v l 2)
+    (Else (¬ Star (Around R v l) v 0) (refused-52 v l 3) (λ a. a ≡ done))))
+
+chain-of : {R : Steps} {v l : ℕ} {a : Answer} → Removes R v l a → Chain R v l a
+chain-of (Removes.absent h) = inl (refl, h)
+chain-of (Removes.breaks-L1 o h) = inr (o, inl (refl, h))
+chain-of (Removes.breaks-L2 o p h) = inr (o, inr (p, inl (refl, h)))
+chain-of (Removes.breaks-L3 o p b q) = inr (o, inr (p, inr (b, inl (refl, λ n. n q))))
+chain-of (Removes.goes o c) = inr (o, inr (c .L1, inr (c .L2, inr (c .L3, refl))))
+
+pub one-answer : {R : Steps} {v l : ℕ} {a b : Answer} → Removes R v l a → Removes R v l b → a ≡ b
+unfolding One
+one-answer {a = a} {b = b} p q = else-one _ _ _ (else-one _ _ _ (else-one _ _ _ (else-one _ _ (λ c. c ≡ done) (λ c d e f. e ∙ sym f)))) a b (chain-of p) (chain-of q)
+
+-- THE LIST CLAIM: over a chart that passed, from where R is what stands while the loops of X remain
+pub removals-agree : {size : ℕ} {S : Steps} → Formed size S → Passed S → {X Y : Loops} {R Q : Steps} → ((v l : ℕ) → X v l → Loop S v l) → Agree S X R → {cs : List (ℕ × ℕ)} {xs ys : List Answer} → RemovesAll R cs xs Q → PlainAll S X cs ys Y → (xs ≡ ys) × Agree S Y Q
+removals-agree f c loops agree RemovesAll.none PlainAll.none = (refl, agree)
+removals-agree {S = S} f c {X = X} {Y = Y} {R = R} {Q = Q} loops agree (RemovesAll.call {v = v} {l = l} {a = a} {cs = cs} {answers = xs} p ps) (PlainAll.call {a = b} {answers = ys} q qs) =
+    let e : a ≡ b = one-answer p (rule-of f c loops agree v l q) in
+    let r : (xs ≡ ys) × Agree S Y Q = removals-agree f c (left-loops-are f c loops agree v l b) (left-agree f c loops agree v l b q) (subst (λ (z : Answer). RemovesAll (left-steps z v l R) cs xs Q) e ps) qs in
+    (ap₂ _∷_ e (r .0), r .1)
+
+-- THERE ARE ANSWERS to every list of calls: of the rule, for any listed transitions; of the plain set, for any listed loops
+module _ {size top : ℕ} {R : Steps} (formed : Formed size R) (listed : Listed top R) where
+  around-below : (v l u w : ℕ) → Around R v l u w → w < size
+  around-below v l = round-below size (λ w. formed .to-vertex v l w) (λ u w (m, e). formed .to-vertex u m w e)
+
+  decide-around : (v l u w : ℕ) → Dec (Around R v l u w)
+  decide-around v l = decide-round (λ w. listed .decide v l w) (λ u w. dec-map (λ (m, h, e). (m, e)) (λ (m, e). (m, listed .label-below u m w e, e)) (dec-below (λ m. listed .decide u m w) top))
+
+  pub rule-answer : (v l : ℕ) → (a : Answer) × Removes R v l a
+  rule-answer v l = go (decide-loop formed listed v l) (judge size (around-below v l) (decide-around v l) v)
+    where
+      go : Dec (Loop R v l) → Judged (Around R v l) v → (a : Answer) × Removes R v l a
+      go (no h) j = (refused-51 v l, Removes.absent h)
+      go (yes o) (loop c) = (done, Removes.goes o c)
+      go (yes o) (broken-L1 h) = (refused-52 v l 1, Removes.breaks-L1 o h)
+      go (yes o) (broken-L2 p h) = (refused-52 v l 2, Removes.breaks-L2 o p h)
+      go (yes o) (broken-L3 p b q) = (refused-52 v l 3, Removes.breaks-L3 o p b q)
+
+decide-different : (v l u m : ℕ) → Dec (¬ ((u ≡ v) × (m ≡ l)))
+decide-different v l u m = dec-not (dec-both (ℕ-discrete u v) (ℕ-discrete m l))
+
+left-formed : {size : ℕ} {R : Steps} (v l : ℕ) (a : Answer) → Formed size R → Formed size (left-steps a v l R)
+left-formed v l done f = record { from-vertex = λ u m w e. f .from-vertex u m w (e .0); to-vertex = λ u m w e. f .to-vertex u m w (e .0) }
+left-formed v l (refused-51 p q) f = f
+left-formed v l (refused-52 p q r) f = f
+
+left-listed : {top : ℕ} {R : Steps} (v l : ℕ) (a : Answer) → Listed top R → Listed top (left-steps a v l R)
+left-listed v l done f = record { label-below = λ u m w e. f .label-below u m w (e .0); decide = λ u m w. dec-both (f .decide u m w) (decide-different v l u m) }
+left-listed v l (refused-51 p q) f = f
+left-listed v l (refused-52 p q r) f = f
+
+pub rule-answers : {size top : ℕ} {R : Steps} → Formed size R → Listed top R → (cs : List (ℕ × ℕ)) → (xs : List Answer) × (Q : Steps) × RemovesAll R cs xs Q
+rule-answers {R = R} f g [] = ([], R, RemovesAll.none)
+rule-answers f g ((v, l) ∷ cs) =
+    let (a, p) = rule-answer f g v l in
+    let (xs, Q, ps) = rule-answers (left-formed v l a f) (left-listed v l a g) cs in
+    (a ∷ xs, Q, RemovesAll.call p ps)
+
+module _ {size top : ℕ} {S : Steps} (formed : Formed size S) (listed : Listed top S) where
+  -- a set whose membership is decided, of loops of S
+  pub record Known (X : Loops) : Type 0 where
+    pub loops : (v l : ℕ) → X v l → Loop S v l
+    pub member : (v l : ℕ) → Dec (X v l)
+
+  decide-inside : {X : Loops} → Known X → (v l : ℕ) → Dec (Inside S X v l)
+  decide-inside k v l = dec-map
+      (λ (w, b, (m, d, (x, (h, p)))). (w, m, x, h, p))
+      (λ (w, m, x, h, p). (w, plus-below (loop-to formed v l) p, (m, listed .label-below w m ((k .loops w m x) .1) ((k .loops w m x) .2), (x, (h, p)))))
+      (dec-below (λ w. dec-below (λ m. dec-both (k .member w m) (dec-both (dec-not (ℕ-discrete w v)) (decide-body formed listed v l w))) top) size)
+
+  pub plain-answer : {X : Loops} → Known X → (v l : ℕ) → (a : Answer) × Plain S X v l a
+  plain-answer {X} k v l = go (k .member v l) (decide-inside k v l)
+    where
+      go : Dec (X v l) → Dec (Inside S X v l) → (a : Answer) × Plain S X v l a
+      go (no h) d = (refused-51 v l, Plain.absent h)
+      go (yes x) (yes i) = (refused-52 v l 2, Plain.inner x i)
+      go (yes x) (no n) = (done, Plain.goes x n)
+
+  left-known : {X : Loops} (v l : ℕ) (a : Answer) → Known X → Known (left-loops a v l X)
+  left-known v l done k = record { loops = λ u m x. k .loops u m (x .0); member = λ u m. dec-both (k .member u m) (decide-different v l u m) }
+  left-known v l (refused-51 p q) k = k
+  left-known v l (refused-52 p q r) k = k
+
+  pub plain-answers : {X : Loops} → Known X → (cs : List (ℕ × ℕ)) → (ys : List Answer) × (Y : Loops) × PlainAll S X cs ys Y
+  plain-answers {X} k [] = ([], X, PlainAll.none)
+  plain-answers k ((v, l) ∷ cs) =
+      let (a, p) = plain-answer k v l in
+      let (ys, Y, ps) = plain-answers (left-known v l a k) cs in
+      (a ∷ ys, Y, PlainAll.call p ps)
+
+  pub all-known : Known (Loop S)
+  all-known = record { loops = λ v l o. o; member = decide-loop formed listed }

@@ -1,0 +1,83 @@
+-- The chart of a loop: its transitions by cases, its body, and L1, L2, L3 by reachability and cycles.
+use mathlib.Core.Path.{_≡_, refl, sym, subst}
+use mathlib.Core.Logic.{_≢_, _⊎_, inl, inr, ⊎-elim, _↔_}
+use Prim.Native.Nat.{ℕ, _<_}
+use native.Mathlib.Decide.{ℕ-discrete}
+use Rattle.theory.specs.Paths.{Edges, Star, here, step, Plus, last, more, Endless, Returns, Avoid}
+use Rattle.theory.specs.LoopCharts.{Round, entry, other, LoopChart, Reached, Stray}
+use Rattle.theory.proofs.Paths.{star-map, plus-map, endless-map, star-plus, plus-star, plus-of, plus-first, star-cases, star-apart, last-visit, not-avoid}
+use Rattle.theory.proofs.Cycles.{Straying, L1-iff, L2-iff}
+
+module _ {v : ℕ} {Entry : ℕ → Type 0} {Other : Edges} where
+  -- what a transition of the loop's chart is, by where it begins
+  pub at-start : {u w : ℕ} → u ≡ v → Round v Entry Other u w → Entry w
+  at-start h (entry e) = e
+  at-start h (other g e) = absurd (g h)
+
+  pub off-start : {u w : ℕ} → u ≢ v → Round v Entry Other u w → Other u w
+  off-start h (entry e) = absurd (h refl)
+  off-start h (other g e) = e
+
+  after : {w : ℕ} → (x : ℕ) × Round v Entry Other v x × Star (Avoid v (Round v Entry Other)) x w → Reached v Entry Other w
+  after (x, e, p) = (x, at-start refl e, star-map (λ a b c. (c .0, off-start (c .0) (c .1))) p)
+
+  -- the body of a loop is what its entries, then its other transitions, reach, stopping at v
+  pub body-iff : (w : ℕ) → Plus (Round v Entry Other) v w ↔ Reached v Entry Other w
+  body-iff w = (to, λ (x, e, p). plus-of (entry e) (star-map (λ a b c. other (c .0) (c .1)) p))
+    where
+      to : Plus (Round v Entry Other) v w → Reached v Entry Other w
+      to p = let (x, e, q) = plus-first p in elim (last-visit v q) [ inl r ↦ after (x, e, r) | inr r ↦ after r ]
+
+  stray-to : Straying (Round v Entry Other) v → Stray v Entry Other
+  stray-to (w, p, c) =
+      let h : w ≢ v = λ e. not-avoid (subst (λ (x : ℕ). Plus (Avoid v (Round v Entry Other)) x w) e c) in
+      (w, h, (body-iff w) .0 (star-apart p h), plus-map (λ a b q. (q .0, off-start (q .0) (q .1))) c)
+
+  stray-from : Stray v Entry Other → Straying (Round v Entry Other) v
+  stray-from (w, h, p, c) = (w, plus-star ((body-iff w) .1 p), plus-map (λ a b q. (q .0, other (q .0) (q .1))) c)
+
+  -- L3: the entries do not reach the end
+  pub round-L3 : v ≢ 0 → Star (Round v Entry Other) v 0 ↔ Reached v Entry Other 0
+  round-L3 h = (
+    (λ p. elim (star-cases p) [ inl e ↦ absurd (h e) | inr q ↦ (body-iff 0) .0 q ]),
+    (λ r. plus-star ((body-iff 0) .1 r)),
+  )
+
+  module _ (size : ℕ) (entry-below : (w : ℕ) → Entry w → w < size) (other-below : (u w : ℕ) → Other u w → w < size) where
+    pub round-below : (u w : ℕ) → Round v Entry Other u w → w < size
+    round-below u w (entry e) = entry-below w e
+    round-below u w (other g e) = other-below u w e
+
+    -- L1: the entries reach v again, or a cycle that does not go through v
+    pub round-L1 : Endless (Round v Entry Other) v ↔ (Reached v Entry Other v ⊎ Stray v Entry Other)
+    round-L1 = (
+      (λ p. ⊎-elim (λ c. inl ((body-iff v) .0 c)) (λ s. inr (stray-to s)) ((L1-iff size round-below v) .0 p)),
+      (λ c. (L1-iff size round-below v) .1 (⊎-elim (λ r. inl ((body-iff v) .1 r)) (λ s. inr (stray-from s)) c)),
+    )
+
+    -- L2: the entries reach no cycle that does not go through v
+    pub round-L2 : Returns (Round v Entry Other) v ↔ (¬ Stray v Entry Other)
+    round-L2 = (
+      (λ back s. (L2-iff size round-below v) .0 back (stray-from s)),
+      (λ none. (L2-iff size round-below v) .1 (λ s. none (stray-to s))),
+    )
+
+-- entries and other transitions that are more, and loop charts with the same transitions
+pub round-map : {v : ℕ} {Entry Entry′ : ℕ → Type 0} {Other Other′ : Edges} → ((w : ℕ) → Entry w → Entry′ w) → ((u w : ℕ) → Other u w → Other′ u w) → (u w : ℕ) → Round v Entry Other u w → Round v Entry′ Other′ u w
+round-map f g u w (entry e) = entry (f w e)
+round-map f g u w (other h e) = other h (g u w e)
+
+pub loop-chart-map : {E F : Edges} {v : ℕ} → ((u w : ℕ) → E u w ↔ F u w) → LoopChart E v → LoopChart F v
+loop-chart-map h c = record {
+  L1 = endless-map (λ u w. (h u w) .0) (c .L1);
+  L2 = λ p. c .L2 (endless-map (λ u w. (h u w) .1) p);
+  L3 = λ p. c .L3 (star-map (λ u w. (h u w) .1) p);
+}
+
+unfoldable pub decide-round : {v : ℕ} {Entry : ℕ → Type 0} {Other : Edges} → ((w : ℕ) → Dec (Entry w)) → ((u w : ℕ) → Dec (Other u w)) → (u w : ℕ) → Dec (Round v Entry Other u w)
+unfolding ℕ-discrete
+decide-round {v} {Entry} {Other} d f u w = go (ℕ-discrete u v)
+  where
+    go : Dec (u ≡ v) → Dec (Round v Entry Other u w)
+    go (yes h) = elim (d w) [ yes e ↦ yes (subst (λ (x : ℕ). Round v Entry Other x w) (sym h) (entry e)) | no g ↦ no (λ e. g (at-start h e)) ]
+    go (no h) = elim (f u w) [ yes e ↦ yes (other h e) | no g ↦ no (λ e. g (off-start h e)) ]
