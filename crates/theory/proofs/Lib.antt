@@ -1,18 +1,29 @@
 -- The laws.
+-- paths, searches and decisions
 pub mod Paths
 pub mod Search
 pub mod Decide
 pub mod Via
 pub mod Cycles
+-- loop charts, and the checks of a labelling
 pub mod Rounds
 pub mod Judge
 pub mod Checks
 pub mod Outcomes
+-- taking out loops
 pub mod Removal
 pub mod Removals
 pub mod Orders
+-- expressions and their charts
 pub mod Ascending
 pub mod Derivatives
+pub mod Down
+pub mod Up
+pub mod ExpressionCharts
+pub mod Counts
+pub mod Bounds
+pub mod Rules
+-- followers
 pub mod Followers
 pub mod Runs
 pub mod FollowerCases
