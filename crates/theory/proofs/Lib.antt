@@ -2,17 +2,18 @@
 -- paths, searches and decisions
 pub mod Paths
 pub mod Search
-pub mod Decide
-pub mod Via
+pub mod Tests
+pub mod Reachability
 pub mod Cycles
 -- loop charts, and the checks of a labelling
 pub mod Rounds
-pub mod Judge
 pub mod Checks
 pub mod Outcomes
+pub mod LabellingTests
 -- taking out loops
 pub mod Removal
 pub mod Removals
+pub mod RemovalTests
 pub mod Orders
 -- expressions and their charts
 pub mod Ascending

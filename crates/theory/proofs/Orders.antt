@@ -14,7 +14,7 @@ use Rattle.theory.specs.Removals.{Answer, done, Removes, Plain, left-ste
 use Rattle.theory.specs.Orders.{Distinct, none, one, Before, at-head, further, Order}
 use Rattle.theory.proofs.Paths.{plus-star, endless-map}
 use Rattle.theory.proofs.Checks.{passed-no-endless}
-use Rattle.theory.proofs.Outcomes.{decide-loop}
+use Rattle.theory.proofs.LabellingTests.{decide-loop}
 use Rattle.theory.proofs.Removals.{Agree, agree-at-first, rule-of, left-agree, left-loops-are, removals-agree}
 
 abbrev Pair : Type 0

@@ -6,17 +6,13 @@ use Prim.Native.Nat.{ℕ, zero, suc, _<_}
 use native.Mathlib.Omega.{arith}
 use native.Mathlib.Decide.{ℕ-discrete}
 use Rattle.theory.specs.Paths.{Star, Endless, Returns}
-use Rattle.theory.specs.Charts.{Steps, Formed, Listed, Any, Loop}
-use Rattle.theory.specs.LoopCharts.{Around, LoopChart, Judged, loop, broken-L1, broken-L2, broken-L3}
+use Rattle.theory.specs.Charts.{Steps, Formed, Any, Loop}
+use Rattle.theory.specs.LoopCharts.{Around, LoopChart}
 use Rattle.theory.specs.Checks.{Passed}
 use Rattle.theory.specs.Standing.{Loops, Standing, Inside}
 use Rattle.theory.specs.Removals.{Answer, done, refused-51, refused-52, Removes, Plain, left-steps, left-loops, RemovesAll, PlainAll}
 use Rattle.theory.proofs.Paths.{endless-map}
-use Rattle.theory.proofs.Decide.{dec-map, dec-both, dec-below, dec-not}
-use Rattle.theory.proofs.Rounds.{round-map, round-below, decide-round, loop-chart-map}
-use Rattle.theory.proofs.Judge.{judge, plus-below}
-use Rattle.theory.proofs.Checks.{loop-to}
-use Rattle.theory.proofs.Outcomes.{decide-loop, decide-body}
+use Rattle.theory.proofs.Rounds.{round-map, loop-chart-map}
 use Rattle.theory.proofs.Removal.{taken-L1, inside-not-L2, taken-loop-chart}
 
 -- R is what stands of S while the loops of X remain
@@ -106,76 +102,3 @@ removals-agree {S = S} f c {X = X} {Y = Y} {R = R} {Q = Q} loops agree (RemovesA
     let e : a ≡ b = one-answer p (rule-of f c loops agree v l q) in
     let r : (xs ≡ ys) × Agree S Y Q = removals-agree f c (left-loops-are f c loops agree v l b) (left-agree f c loops agree v l b q) (subst (λ (z : Answer). RemovesAll (left-steps z v l R) cs xs Q) e ps) qs in
     (ap₂ _∷_ e (r .0), r .1)
-
--- THERE ARE ANSWERS to every list of calls: of the rule, for any listed transitions; of the plain set, for any listed loops
-module _ {size top : ℕ} {R : Steps} (formed : Formed size R) (listed : Listed top R) where
-  around-below : (v l u w : ℕ) → Around R v l u w → w < size
-  around-below v l = round-below size (λ w. formed .to-vertex v l w) (λ u w (m, e). formed .to-vertex u m w e)
-
-  decide-around : (v l u w : ℕ) → Dec (Around R v l u w)
-  decide-around v l = decide-round (λ w. listed .decide v l w) (λ u w. dec-map (λ (m, h, e). (m, e)) (λ (m, e). (m, listed .label-below u m w e, e)) (dec-below (λ m. listed .decide u m w) top))
-
-  pub rule-answer : (v l : ℕ) → (a : Answer) × Removes R v l a
-  rule-answer v l = go (decide-loop formed listed v l) (judge size (around-below v l) (decide-around v l) v)
-    where
-      go : Dec (Loop R v l) → Judged (Around R v l) v → (a : Answer) × Removes R v l a
-      go (no h) j = (refused-51 v l, Removes.absent h)
-      go (yes o) (loop c) = (done, Removes.goes o c)
-      go (yes o) (broken-L1 h) = (refused-52 v l 1, Removes.breaks-L1 o h)
-      go (yes o) (broken-L2 p h) = (refused-52 v l 2, Removes.breaks-L2 o p h)
-      go (yes o) (broken-L3 p b q) = (refused-52 v l 3, Removes.breaks-L3 o p b q)
-
-decide-different : (v l u m : ℕ) → Dec (¬ ((u ≡ v) × (m ≡ l)))
-decide-different v l u m = dec-not (dec-both (ℕ-discrete u v) (ℕ-discrete m l))
-
-left-formed : {size : ℕ} {R : Steps} (v l : ℕ) (a : Answer) → Formed size R → Formed size (left-steps a v l R)
-left-formed v l done f = record { from-vertex = λ u m w e. f .from-vertex u m w (e .0); to-vertex = λ u m w e. f .to-vertex u m w (e .0) }
-left-formed v l (refused-51 p q) f = f
-left-formed v l (refused-52 p q r) f = f
-
-left-listed : {top : ℕ} {R : Steps} (v l : ℕ) (a : Answer) → Listed top R → Listed top (left-steps a v l R)
-left-listed v l done f = record { label-below = λ u m w e. f .label-below u m w (e .0); decide = λ u m w. dec-both (f .decide u m w) (decide-different v l u m) }
-left-listed v l (refused-51 p q) f = f
-left-listed v l (refused-52 p q r) f = f
-
-pub rule-answers : {size top : ℕ} {R : Steps} → Formed size R → Listed top R → (cs : List (ℕ × ℕ)) → (xs : List Answer) × (Q : Steps) × RemovesAll R cs xs Q
-rule-answers {R = R} f g [] = ([], R, RemovesAll.none)
-rule-answers f g ((v, l) ∷ cs) =
-    let (a, p) = rule-answer f g v l in
-    let (xs, Q, ps) = rule-answers (left-formed v l a f) (left-listed v l a g) cs in
-    (a ∷ xs, Q, RemovesAll.call p ps)
-
-module _ {size top : ℕ} {S : Steps} (formed : Formed size S) (listed : Listed top S) where
-  -- a set whose membership is decided, of loops of S
-  pub record Known (X : Loops) : Type 0 where
-    pub loops : (v l : ℕ) → X v l → Loop S v l
-    pub member : (v l : ℕ) → Dec (X v l)
-
-  decide-inside : {X : Loops} → Known X → (v l : ℕ) → Dec (Inside S X v l)
-  decide-inside k v l = dec-map
-      (λ (w, b, (m, d, (x, (h, p)))). (w, m, x, h, p))
-      (λ (w, m, x, h, p). (w, plus-below (loop-to formed v l) p, (m, listed .label-below w m ((k .loops w m x) .1) ((k .loops w m x) .2), (x, (h, p)))))
-      (dec-below (λ w. dec-below (λ m. dec-both (k .member w m) (dec-both (dec-not (ℕ-discrete w v)) (decide-body formed listed v l w))) top) size)
-
-  pub plain-answer : {X : Loops} → Known X → (v l : ℕ) → (a : Answer) × Plain S X v l a
-  plain-answer {X} k v l = go (k .member v l) (decide-inside k v l)
-    where
-      go : Dec (X v l) → Dec (Inside S X v l) → (a : Answer) × Plain S X v l a
-      go (no h) d = (refused-51 v l, Plain.absent h)
-      go (yes x) (yes i) = (refused-52 v l 2, Plain.inner x i)
-      go (yes x) (no n) = (done, Plain.goes x n)
-
-  left-known : {X : Loops} (v l : ℕ) (a : Answer) → Known X → Known (left-loops a v l X)
-  left-known v l done k = record { loops = λ u m x. k .loops u m (x .0); member = λ u m. dec-both (k .member u m) (decide-different v l u m) }
-  left-known v l (refused-51 p q) k = k
-  left-known v l (refused-52 p q r) k = k
-
-  pub plain-answers : {X : Loops} → Known X → (cs : List (ℕ × ℕ)) → (ys : List Answer) × (Y : Loops) × PlainAll S X cs ys Y
-  plain-answers {X} k [] = ([], X, PlainAll.none)
-  plain-answers k ((v, l) ∷ cs) =
-      let (a, p) = plain-answer k v l in
-      let (ys, Y, ps) = plain-answers (left-known v l a k) cs in
-      (a ∷ ys, Y, PlainAll.call p ps)
-
-  pub all-known : Known (Loop S)
-  all-known = record { loops = λ v l o. o; member = decide-loop formed listed }

@@ -2,7 +2,6 @@
 use mathlib.Core.Path.{_≡_, refl, sym, subst}
 use mathlib.Core.Logic.{_≢_, _⊎_, inl, inr, ⊎-elim, _↔_}
 use Prim.Native.Nat.{ℕ, _<_}
-use native.Mathlib.Decide.{ℕ-discrete}
 use Rattle.theory.specs.Paths.{Edges, Star, here, step, Plus, last, more, Endless, Returns, Avoid}
 use Rattle.theory.specs.LoopCharts.{Round, entry, other, LoopChart, Reached, Stray}
 use Rattle.theory.proofs.Paths.{star-map, plus-map, endless-map, star-plus, plus-star, plus-of, plus-first, star-cases, star-apart, last-visit, not-avoid}
@@ -73,11 +72,3 @@ loop-chart-map h c = record {
   L2 = λ p. c .L2 (endless-map (λ u w. (h u w) .1) p);
   L3 = λ p. c .L3 (star-map (λ u w. (h u w) .1) p);
 }
-
-unfoldable pub decide-round : {v : ℕ} {Entry : ℕ → Type 0} {Other : Edges} → ((w : ℕ) → Dec (Entry w)) → ((u w : ℕ) → Dec (Other u w)) → (u w : ℕ) → Dec (Round v Entry Other u w)
-unfolding ℕ-discrete
-decide-round {v} {Entry} {Other} d f u w = go (ℕ-discrete u v)
-  where
-    go : Dec (u ≡ v) → Dec (Round v Entry Other u w)
-    go (yes h) = elim (d w) [ yes e ↦ yes (subst (λ (x : ℕ). Round v Entry Other x w) (sym h) (entry e)) | no g ↦ no (λ e. g (at-start h e)) ]
-    go (no h) = elim (f u w) [ yes e ↦ yes (other h e) | no g ↦ no (λ e. g (off-start h e)) ]

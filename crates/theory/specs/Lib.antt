@@ -18,3 +18,7 @@ pub mod Nodes
 pub mod ExpressionCharts
 pub mod Followers
 pub mod Runs
+pub mod Tests
+pub mod Reachability
+pub mod LabellingTests
+pub mod RemovalTests

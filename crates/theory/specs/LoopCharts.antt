@@ -25,13 +25,6 @@ pub record LoopChart (E : Edges) (v : ℕ) : Type 0 where
   pub L2 : Returns E v
   pub L3 : ¬ Star E v 0
 
--- a loop chart, or the first of its conditions that is broken
-pub data Judged (E : Edges) (v : ℕ) : Type 0 where
-  loop : LoopChart E v → Judged E v
-  broken-L1 : ¬ Endless E v → Judged E v
-  broken-L2 : Endless E v → ¬ Returns E v → Judged E v
-  broken-L3 : Endless E v → Returns E v → Star E v 0 → Judged E v
-
 -- what the entries, then the other transitions, reach, stopping at v (document 01's body of a loop)
 abbrev pub Reached : ℕ → (ℕ → Type 0) → Edges → ℕ → Type 0
 Reached v Entry Other w = (x : ℕ) × Entry x × Star (Avoid v Other) x w

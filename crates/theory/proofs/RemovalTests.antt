@@ -1,0 +1,116 @@
+-- The tests of a removal give the answers of the rule and of the plain set; so every list of calls has answers.
+use mathlib.Core.Path.{_≡_, refl}
+use mathlib.Core.Logic.{_≢_, _⊎_, inl, inr, ⊎-elim, _↔_}
+use mathlib.Core.Bool.{Bool, true, false, cond, _&&_, _||_, not}
+use mathlib.Core.List.{List, [], _∷_}
+use Prim.Native.Nat.{ℕ, _<_}
+use native.Mathlib.Decide.{ℕ-discrete}
+use Rattle.theory.specs.Paths.{Star, Plus, Avoid, Endless, Returns}
+use Rattle.theory.specs.Charts.{Steps, Formed, Listed, Any, Loop}
+use Rattle.theory.specs.LoopCharts.{InLoop, Around, LoopChart, Reached, Stray}
+use Rattle.theory.specs.Standing.{Loops, Inside}
+use Rattle.theory.specs.Removals.{Answer, done, refused-51, refused-52, Removes, Plain, left-steps, left-loops, RemovesAll, PlainAll}
+use Rattle.theory.specs.Tests.{Decides, someBelow}
+use Rattle.theory.specs.LabellingTests.{StepTest, anyTest, loopTest, bodyTest}
+use Rattle.theory.specs.RemovalTests.{aroundTest, strayTest, ruleAnswer, insideTest, plainAnswer}
+use Rattle.theory.proofs.Paths.{plus-below}
+use Rattle.theory.proofs.Tests.{decides-dec, test-of, not-so, decides-same, decides-and, decides-or, decides-not, decides-eqb, decides-below}
+use Rattle.theory.proofs.Reachability.{decides-plus}
+use Rattle.theory.proofs.Rounds.{body-iff, round-below, round-L1, round-L2, round-L3}
+use Rattle.theory.proofs.Checks.{loop-to, loop-not-end}
+use Rattle.theory.proofs.LabellingTests.{decides-round, decides-any, decides-loop, decides-body, listed-test, listed-tests}
+
+-- r tests what stands
+module _ {r : StepTest} {R : Steps} {size top : ℕ} (tests : (u l w : ℕ) → Decides (r u l w) (R u l w)) (formed : Formed size R) (labels : (u l w : ℕ) → R u l w → l < top) where
+  any-below : (u w : ℕ) → Any R u w → w < size
+  any-below u w (m, e) = formed .to-vertex u m w e
+
+  decides-around : (v l w : ℕ) → Decides (aroundTest r size top v l w) (Reached v (R v l) (Any R) w)
+  unfolding aroundTest
+  decides-around v l w = decides-same (body-iff w)
+      (decides-plus (decides-round (tests v l) (decides-any tests formed labels)) size (round-below size (λ x. formed .to-vertex v l x) any-below) v w)
+
+  decides-stray : (v l : ℕ) → Decides (strayTest r size top v l) (Stray v (R v l) (Any R))
+  unfolding strayTest
+  decides-stray v l = decides-same
+      ((λ (w, b, (h, (p, c))). (w, h, p, c)), (λ (w, h, p, c). (w, plus-below (λ x y q. any-below x y (q .1)) c, (h, (p, c)))))
+      (decides-below (λ w. decides-and (decides-not (decides-eqb w v)) (decides-and (decides-around v l w) (decides-plus (λ u x. decides-and (decides-not (decides-eqb u v)) (decides-any tests formed labels u x)) size (λ x y q. any-below x y (q .1)) w w))) size)
+
+  -- THE RULE: 51, then the first of L1, L2, L3 that is broken
+  pub rule-answer : (v l : ℕ) → Removes R v l (ruleAnswer r size top v l)
+  unfolding ruleAnswer
+  rule-answer v l = go (loopTest r size top v l) (aroundTest r size top v l v || strayTest r size top v l) (strayTest r size top v l) (aroundTest r size top v l 0)
+      (decides-loop tests formed labels v l) (decides-or (decides-around v l v) (decides-stray v l)) (decides-stray v l) (decides-around v l 0)
+    where
+      L1 : Endless (Around R v l) v ↔ (Reached v (R v l) (Any R) v ⊎ Stray v (R v l) (Any R))
+      L1 = round-L1 size (λ w. formed .to-vertex v l w) any-below
+
+      L2 : Returns (Around R v l) v ↔ (¬ Stray v (R v l) (Any R))
+      L2 = round-L2 size (λ w. formed .to-vertex v l w) any-below
+
+      go : (a b c d : Bool) → Decides a (Loop R v l) → Decides b (Reached v (R v l) (Any R) v ⊎ Stray v (R v l) (Any R)) → Decides c (Stray v (R v l) (Any R)) → Decides d (Reached v (R v l) (Any R) 0) → Removes R v l (cond (not a) (refused-51 v l) (cond (not b) (refused-52 v l 1) (cond c (refused-52 v l 2) (cond d (refused-52 v l 3) done))))
+      go false b c d e f g h = Removes.absent (not-so e refl)
+      go true false c d e f g h = Removes.breaks-L1 (e .0 refl) (λ p. not-so f refl (L1 .0 p))
+      go true true true d e f g h = Removes.breaks-L2 (e .0 refl) (L1 .1 (f .0 refl)) (λ back. L2 .0 back (g .0 refl))
+      go true true false true e f g h = Removes.breaks-L3 (e .0 refl) (L1 .1 (f .0 refl)) (L2 .1 (not-so g refl)) (round-L3 (loop-not-end formed (e .0 refl)) .1 (h .0 refl))
+      go true true false false e f g h = Removes.goes (e .0 refl) (record { L1 = L1 .1 (f .0 refl); L2 = L2 .1 (not-so g refl); L3 = λ p. not-so h refl (round-L3 (loop-not-end formed (e .0 refl)) .0 p) })
+
+-- s tests the transitions, x a set of their loops
+module _ {s : StepTest} {S : Steps} {size top : ℕ} (tests : (u l w : ℕ) → Decides (s u l w) (S u l w)) (formed : Formed size S) (labels : (u l w : ℕ) → S u l w → l < top) {x : ℕ → ℕ → Bool} {X : Loops} (members : (v l : ℕ) → Decides (x v l) (X v l)) (loops : (v l : ℕ) → X v l → Loop S v l) where
+  decides-inside : (v l : ℕ) → Decides (insideTest s size top x v l) (Inside S X v l)
+  unfolding insideTest
+  decides-inside v l = decides-same
+      ((λ (w, b, (m, d, (i, (h, p)))). (w, m, i, h, p)), (λ (w, m, i, h, p). (w, plus-below (loop-to formed v l) p, (m, labels w m ((loops w m i) .1) ((loops w m i) .2), (i, (h, p))))))
+      (decides-below (λ w. decides-below (λ m. decides-and (members w m) (decides-and (decides-not (decides-eqb w v)) (decides-body tests formed labels v l w))) top) size)
+
+  -- THE PLAIN SET
+  pub plain-answer : (v l : ℕ) → Plain S X v l (plainAnswer s size top x v l)
+  unfolding plainAnswer
+  plain-answer v l = go (x v l) (insideTest s size top x v l) (members v l) (decides-inside v l)
+    where
+      go : (a b : Bool) → Decides a (X v l) → Decides b (Inside S X v l) → Plain S X v l (cond (not a) (refused-51 v l) (cond b (refused-52 v l 2) done))
+      go false b d e = Plain.absent (not-so d refl)
+      go true true d e = Plain.inner (d .0 refl) (e .0 refl)
+      go true false d e = Plain.goes (d .0 refl) (not-so e refl)
+
+-- EVERY LIST OF CALLS HAS ANSWERS
+apart-too : {P : Type 0} → Dec P → (v l u m : ℕ) → Dec (P × ¬ ((u ≡ v) × (m ≡ l)))
+apart-too (no h) v l u m = no (λ q. h (q .0))
+apart-too (yes p) v l u m = elim (ℕ-discrete u v) [
+  | no h ↦ yes (p, λ q. h (q .0))
+  | yes e ↦ elim (ℕ-discrete m l) [ no h ↦ yes (p, λ q. h (q .1)) | yes f ↦ no (λ q. q .1 (e, f)) ]
+]
+
+left-formed : {size : ℕ} {R : Steps} (v l : ℕ) (a : Answer) → Formed size R → Formed size (left-steps a v l R)
+left-formed v l done f = record { from-vertex = λ u m w e. f .from-vertex u m w (e .0); to-vertex = λ u m w e. f .to-vertex u m w (e .0) }
+left-formed v l (refused-51 p q) f = f
+left-formed v l (refused-52 p q r) f = f
+
+left-listed : {top : ℕ} {R : Steps} (v l : ℕ) (a : Answer) → Listed top R → Listed top (left-steps a v l R)
+left-listed v l done f = record { label-below = λ u m w e. f .label-below u m w (e .0); decide = λ u m w. apart-too (f .decide u m w) v l u m }
+left-listed v l (refused-51 p q) f = f
+left-listed v l (refused-52 p q r) f = f
+
+pub rule-answers : {size top : ℕ} {R : Steps} → Formed size R → Listed top R → (cs : List (ℕ × ℕ)) → (xs : List Answer) × (Q : Steps) × RemovesAll R cs xs Q
+rule-answers {R = R} f g [] = ([], R, RemovesAll.none)
+rule-answers {size} {top} {R} f g ((v, l) ∷ cs) =
+    let a : Answer = ruleAnswer (listed-test f g) size top v l in
+    let (xs, Q, ps) = rule-answers {R = left-steps a v l R} (left-formed v l a f) (left-listed v l a g) cs in
+    (a ∷ xs, Q, RemovesAll.call (rule-answer (listed-tests f g) f (g .label-below) v l) ps)
+
+-- a set of loops of S whose membership is decided
+pub record Known (S : Steps) (X : Loops) : Type 0 where
+  pub loops : (v l : ℕ) → X v l → Loop S v l
+  pub member : (v l : ℕ) → Dec (X v l)
+
+left-known : {S : Steps} {X : Loops} (v l : ℕ) (a : Answer) → Known S X → Known S (left-loops a v l X)
+left-known v l done k = record { loops = λ u m x. k .loops u m (x .0); member = λ u m. apart-too (k .member u m) v l u m }
+left-known v l (refused-51 p q) k = k
+left-known v l (refused-52 p q r) k = k
+
+pub plain-answers : {size top : ℕ} {S : Steps} → Formed size S → Listed top S → {X : Loops} → Known S X → (cs : List (ℕ × ℕ)) → (ys : List Answer) × (Y : Loops) × PlainAll S X cs ys Y
+plain-answers f g {X} k [] = ([], X, PlainAll.none)
+plain-answers {size} {top} f g {X} k ((v, l) ∷ cs) =
+    let a : Answer = plainAnswer (listed-test f g) size top (λ w m. test-of (k .member w m)) v l in
+    let (ys, Y, ps) = plain-answers f g {X = left-loops a v l X} (left-known v l a k) cs in
+    (a ∷ ys, Y, PlainAll.call (plain-answer (listed-tests f g) f (g .label-below) (λ w m. decides-dec (k .member w m)) (k .loops) v l) ps)

@@ -1,0 +1,18 @@
+-- Tests that run, and what it is for a test to decide a statement.
+use mathlib.Core.Path.{_≡_}
+use mathlib.Core.Logic.{_↔_}
+use mathlib.Core.Bool.{Bool, true, false, cond, _||_}
+use Prim.Native.Nat.{ℕ, zero, suc}
+
+abbrev pub Decides : Bool → Type 0 → Type 0
+Decides b P = (b ≡ true) ↔ P
+
+-- some number below n passes
+unfoldable pub someBelow : (ℕ → Bool) → ℕ → Bool
+someBelow p zero = false
+someBelow p (suc n) = p n || someBelow p n
+
+-- of the n numbers from i on, the lowest that passes, or the next after them
+unfoldable pub lowest : (ℕ → Bool) → ℕ → ℕ → ℕ
+lowest p i zero = i
+lowest p i (suc n) = cond (p i) i (lowest p (suc i) n)
