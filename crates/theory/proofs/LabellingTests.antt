@@ -10,13 +10,13 @@ use Rattle.theory.specs.Paths.{Edges, Star, Plus}
 use Rattle.theory.specs.Charts.{Steps, Formed, Listed, Any, Branch, Loop}
 use Rattle.theory.specs.LoopCharts.{Round, entry, other, InLoop}
 use Rattle.theory.specs.Witnesses.{Layered, Connected}
-use Rattle.theory.specs.Least.{Least}
-use Rattle.theory.specs.Checks.{LoopPasses, Passed, Outcome, passes, unreached, branch-cycle, no-return, end-inside, not-lower, Unreached, OnBranchCycle, NotLower, LoopFails, fails-33, fails-34, fails-35, Earlier, EarlierPass, Checked, all-pass, fails-31, fails-32, fails-loop}
-use Rattle.theory.specs.Tests.{Decides, someBelow, lowest}
+use Rattle.theory.specs.Least.{Least, Earlier, FirstPair}
+use Rattle.theory.specs.Checks.{LoopPasses, Passed, Outcome, passes, unreached, branch-cycle, no-return, end-inside, not-lower, Unreached, OnBranchCycle, NotLower, LoopFails, fails-33, fails-34, fails-35, EarlierPass, Checked, all-pass, fails-31, fails-32, fails-loop}
+use Rattle.theory.specs.Tests.{Decides, someBelow, lowest, firstRow}
 use Rattle.theory.specs.Reachability.{reaches, leadsTo}
 use Rattle.theory.specs.LabellingTests.{StepTest, roundTest, anyTest, loopTest, bodyTest, unreachedTest, cycleTest, notLowerTest, loopOutcome, failed, failingTest, loopsOutcome, outcome}
 use Rattle.theory.proofs.Paths.{star-apart, plus-below}
-use Rattle.theory.proofs.Tests.{decided, test-of, decides-dec, not-so, decides-same, decides-and, decides-not, decides-eqb, decides-ltb, decides-leb, decides-cond, decides-below, Stops, lowest-stops, stops-least}
+use Rattle.theory.proofs.Tests.{decided, test-of, decides-dec, not-so, decides-same, decides-and, decides-not, decides-eqb, decides-ltb, decides-leb, decides-cond, decides-below, lowest-stops, stops-least, first-pair}
 use Rattle.theory.proofs.Reachability.{decides-star, decides-plus}
 use Rattle.theory.proofs.Rounds.{at-start, off-start}
 use Rattle.theory.proofs.Checks.{loop-to}
@@ -102,43 +102,28 @@ module _ {s : StepTest} {S : Steps} {size top : ℕ} (tests : (u l w : ℕ) → 
   not-failing v l h o = ⊎-elim (λ (e, c). c) (λ f. absurd (h (o, f))) (loop-answer v l)
 
   -- ALL LOOPS
-  FailsAt : ℕ → Type 0
-  FailsAt v = (l : ℕ) × (l < top) × Failing v l
-
-  not-at : (v : ℕ) → ¬ FailsAt v → (l : ℕ) → Loop S v l → LoopPasses S v l
-  unfolding FailsAt
-  not-at v h l o = not-failing v l (λ f. h (l, labels v l (o .1) (o .2), f)) o
-
   abbrev LoopsAnswer : Outcome → Type 0
   LoopsAnswer o = ((v l : ℕ) × Loop S v l × EarlierPass S v l × LoopFails S v l o) ⊎ ((o ≡ passes) × ((v l : ℕ) → Loop S v l → LoopPasses S v l))
 
   loops-answer : LoopsAnswer (loopsOutcome s size top)
-  unfolding loopsOutcome FailsAt
+  unfolding loopsOutcome
   loops-answer = go (ltb v size) refl
     where
       v : ℕ
-      v = lowest (λ u. someBelow (failingTest s size top u) top) 0 size
+      v = firstRow (failingTest s size top) size top
 
       l : ℕ
       l = lowest (failingTest s size top v) 0 top
 
-      least-v : (v < size → Least FailsAt v) × (size ≤ v → (k : ℕ) → k < size → ¬ FailsAt k)
-      least-v = stops-least (λ u. decides-below (decides-failing u) top) (lowest-stops (λ u. someBelow (failingTest s size top u) top) 0 size)
+      found : (v < size → FirstPair Failing v l) × (size ≤ v → (w m : ℕ) → ¬ Failing w m)
+      found = first-pair decides-failing size top (λ w m f. (formed .from-vertex w m (f .0 .1) (f .0 .2) .1, labels w m (f .0 .1) (f .0 .2)))
 
-      least-l : (l < top → Least (Failing v) l) × (top ≤ l → (k : ℕ) → k < top → ¬ Failing v k)
-      least-l = stops-least (decides-failing v) (lowest-stops (failingTest s size top v) 0 top)
-
-      first : Least FailsAt v → Dec (l < top) → LoopsAnswer (loopOutcome s size top v l)
-      first h (no g) = let (k, b, f) = h .holds in absurd (least-l .1 (omega arith) k b f)
-      first h (yes g) = let f = least-l .0 g in inl (v, l, f .holds .0, earlier f, f .holds .1)
-        where
-          earlier : Least (Failing v) l → EarlierPass S v l
-          earlier f w m (inl q) o = not-at w (h .lowest w q) m o
-          earlier f w m (inr (e, q)) o = not-failing w m (rw e (f .lowest m q)) o
+      first : FirstPair Failing v l → LoopsAnswer (loopOutcome s size top v l)
+      first f = inl (v, l, f .holds .0, λ w m e. not-failing w m (f .earlier w m e), f .holds .1)
 
       go : (c : Bool) → ltb v size ≡ c → LoopsAnswer (cond c (loopOutcome s size top v l) passes)
-      go true h = first (least-v .0 (ltb-true v size h)) (decided (decides-ltb l top))
-      go false h = inr (refl, λ w m o. not-at w (least-v .1 (ltb-false v size h) w ((formed .from-vertex w m (o .1) (o .2)) .1)) m o)
+      go true h = first (found .0 (ltb-true v size h))
+      go false h = inr (refl, λ w m. not-failing w m (found .1 (ltb-false v size h) w m))
 
   -- THE TEST gives the answer of the checks
   pub outcome-checked : (start : ℕ) → start < size → Checked size S start (outcome s size top start)

@@ -24,7 +24,8 @@ pub mod ExpressionCharts
 pub mod Counts
 pub mod Bounds
 pub mod Rules
--- followers
+-- relations and followers
+pub mod Relations
 pub mod Followers
 pub mod Runs
 pub mod FollowerCases

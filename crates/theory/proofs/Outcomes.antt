@@ -8,10 +8,10 @@ use Rattle.theory.specs.Paths.{Edges, Star, here, Plus, last, more}
 use Rattle.theory.specs.Charts.{Steps, Formed, Any, Branch, Loop}
 use Rattle.theory.specs.LoopCharts.{InLoop}
 use Rattle.theory.specs.Witnesses.{Layered, Witness, Connected}
-use Rattle.theory.specs.Least.{Least}
-use Rattle.theory.specs.Checks.{LoopPasses, Passed, Outcome, passes, unreached, branch-cycle, no-return, end-inside, not-lower, Unreached, OnBranchCycle, NotLower, LoopFails, fails-33, fails-34, fails-35, Earlier, EarlierPass, Checked, all-pass, fails-31, fails-32, fails-loop}
+use Rattle.theory.specs.Least.{Least, Earlier}
+use Rattle.theory.specs.Checks.{LoopPasses, Passed, Outcome, passes, unreached, branch-cycle, no-return, end-inside, not-lower, Unreached, OnBranchCycle, NotLower, LoopFails, fails-33, fails-34, fails-35, EarlierPass, Checked, all-pass, fails-31, fails-32, fails-loop}
 use Rattle.theory.proofs.Paths.{plus-star}
-use Rattle.theory.proofs.Search.{least-one}
+use Rattle.theory.proofs.Search.{least-one, same-or-earlier}
 use Rattle.theory.proofs.Checks.{passed-iff-witness}
 
 -- THERE IS ONLY ONE ANSWER
@@ -35,23 +35,12 @@ module _ {S : Steps} {v l : ℕ} where
   one-failure (fails-35 h i r) (fails-34 g j) = absurd (i j)
   one-failure (fails-35 h i r) (fails-35 g j q) = ap (not-lower v l) (least-one r q)
 
--- two loops are the same, or one comes before the other
-which : (v l w m : ℕ) → ((v ≡ w) × (l ≡ m)) ⊎ (Earlier v l w m ⊎ Earlier w m v l)
-which v l w m = go (ℕ-discrete v w) (ℕ-discrete l m) (decLt v w) (decLt l m)
-  where
-    go : Dec (v ≡ w) → Dec (l ≡ m) → Dec (v < w) → Dec (l < m) → ((v ≡ w) × (l ≡ m)) ⊎ (Earlier v l w m ⊎ Earlier w m v l)
-    go (yes a) (yes b) c d = inl (a, b)
-    go (yes a) (no b) c (yes d) = inr (inl (inr (a, d)))
-    go (yes a) (no b) c (no d) = inr (inr (inr (sym a, omega arith)))
-    go (no a) b (yes c) d = inr (inl (inl c))
-    go (no a) b (no c) d = inr (inr (inl (omega arith)))
-
 module _ {S : Steps} where
   fails-not-passed : {v l : ℕ} {o : Outcome} → Loop S v l → LoopFails S v l o → ¬ Passed S
   fails-not-passed o f c = fails-not-passes f (c .loops _ _ o)
 
   one-loop : {v l w m : ℕ} {o o′ : Outcome} → Loop S v l → EarlierPass S v l → LoopFails S v l o → Loop S w m → EarlierPass S w m → LoopFails S w m o′ → o ≡ o′
-  one-loop {v} {l} {w} {m} {o} {o′} a e f b g h = go (which v l w m)
+  one-loop {v} {l} {w} {m} {o} {o′} a e f b g h = go (same-or-earlier v l w m)
     where
       go : ((v ≡ w) × (l ≡ m)) ⊎ (Earlier v l w m ⊎ Earlier w m v l) → o ≡ o′
       go (inl (p, q)) = one-failure f (rw (p, q) h)

@@ -4,7 +4,7 @@ use mathlib.Core.Logic.{_≢_, _⊎_, inl, inr}
 use Prim.Native.Nat.{ℕ, zero, suc, _+_, _≤_, _<_}
 use native.Mathlib.Omega.{arith}
 use native.Mathlib.Decide.{ℕ-discrete, decLt}
-use Rattle.theory.specs.Least.{Least}
+use Rattle.theory.specs.Least.{Least, Earlier}
 
 -- the lowest number below n with P, or none has it
 pub least-below : {P : ℕ → Type 0} → ((k : ℕ) → Dec (P k)) → (n : ℕ) → ((p : ℕ) × (p < n) × Least P p) ⊎ ((k : ℕ) → k < n → ¬ P k)
@@ -28,6 +28,17 @@ least-one {P} {p} {q} a b = go (decLt p q) (decLt q p)
     go (yes h) d = absurd (b .lowest p h (a .holds))
     go (no h) (yes g) = absurd (a .lowest q g (b .holds))
     go (no h) (no g) = omega arith
+
+-- two pairs are the same, or one comes before the other
+pub same-or-earlier : (v l w m : ℕ) → ((v ≡ w) × (l ≡ m)) ⊎ (Earlier v l w m ⊎ Earlier w m v l)
+same-or-earlier v l w m = go (ℕ-discrete v w) (ℕ-discrete l m) (decLt v w) (decLt l m)
+  where
+    go : Dec (v ≡ w) → Dec (l ≡ m) → Dec (v < w) → Dec (l < m) → ((v ≡ w) × (l ≡ m)) ⊎ (Earlier v l w m ⊎ Earlier w m v l)
+    go (yes a) (yes b) c d = inl (a, b)
+    go (yes a) (no b) c (yes d) = inr (inl (inr (a, d)))
+    go (yes a) (no b) c (no d) = inr (inr (inr (sym a, omega arith)))
+    go (no a) b (yes c) d = inr (inl (inl c))
+    go (no a) b (no c) d = inr (inr (inl (omega arith)))
 
 -- x, or v in place of n
 swapped : (n v x : ℕ) → (y : ℕ) × (((x ≡ n) × (y ≡ v)) ⊎ ((x ≢ n) × (y ≡ x)))

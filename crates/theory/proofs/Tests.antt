@@ -7,8 +7,8 @@ use native.Mathlib.Omega.{arith}
 use native.Mathlib.Decide.{ℕ-discrete}
 use lib.Dec.{eqb, ltb, leb}
 use borrow.Author.Tests.{eqb-true, eq-eqb, ltb-true, lt-ltb, leb-true, le-leb}
-use Rattle.theory.specs.Least.{Least}
-use Rattle.theory.specs.Tests.{Decides, someBelow, lowest}
+use Rattle.theory.specs.Least.{Least, Earlier, FirstPair}
+use Rattle.theory.specs.Tests.{Decides, someBelow, lowest, firstRow}
 
 pub decided : {b : Bool} {P : Type 0} → Decides b P → Dec P
 decided {b} {P} d = go b d
@@ -142,3 +142,30 @@ stops-least d s = (
   (λ h. record { holds = d _ .0 (s .passes (omega arith)); lowest = λ k l. not-so (d k) (s .below k (omega arith) l) }),
   (λ h k l. not-so (d k) (s .below k (omega arith) (omega arith))),
 )
+
+-- the first pair with P, or none has it
+pub first-pair : {p : ℕ → ℕ → Bool} {P : ℕ → ℕ → Type 0} → ((u v : ℕ) → Decides (p u v) (P u v)) → (rows columns : ℕ) → ((u v : ℕ) → P u v → (u < rows) × (v < columns)) → (firstRow p rows columns < rows → FirstPair P (firstRow p rows columns) (lowest (p (firstRow p rows columns)) 0 columns)) × (rows ≤ firstRow p rows columns → (u v : ℕ) → ¬ P u v)
+unfolding firstRow
+first-pair {p} {P} d rows columns low = (first, λ h u v q. row .1 h u (low u v q .0) (v, low u v q .1, q))
+  where
+    r : ℕ
+    r = lowest (λ u. someBelow (p u) columns) 0 rows
+
+    c : ℕ
+    c = lowest (p r) 0 columns
+
+    row : (r < rows → Least (λ u. (v : ℕ) × (v < columns) × P u v) r) × (rows ≤ r → (k : ℕ) → k < rows → ¬ ((v : ℕ) × (v < columns) × P k v))
+    row = stops-least (λ u. decides-below (d u) columns) (lowest-stops (λ u. someBelow (p u) columns) 0 rows)
+
+    column : (c < columns → Least (P r) c) × (columns ≤ c → (k : ℕ) → k < columns → ¬ P r k)
+    column = stops-least (d r) (lowest-stops (p r) 0 columns)
+
+    go : Least (λ u. (v : ℕ) × (v < columns) × P u v) r → Dec (c < columns) → FirstPair P r c
+    go h (no g) = let (v, b, q) = h .holds in absurd (column .1 (omega arith) v b q)
+    go h (yes g) = record {
+      holds = column .0 g .holds;
+      earlier = λ a b e q. ⊎-elim (λ k. h .lowest a k (b, low a b q .1, q)) (λ (k, l). column .0 g .lowest b l (subst (λ (x : ℕ). P x b) k q)) e;
+    }
+
+    first : r < rows → FirstPair P r c
+    first h = go (row .0 h) (decided (decides-ltb c columns))

@@ -1,12 +1,11 @@
 -- The checks 31 to 35 of document 01 and what each of their places says.
-use mathlib.Core.Path.{_≡_}
-use mathlib.Core.Logic.{_≢_, _⊎_}
+use mathlib.Core.Logic.{_≢_}
 use Prim.Native.Nat.{ℕ, _<_, _≤_}
 use Rattle.theory.specs.Paths.{Star, Plus}
 use Rattle.theory.specs.Charts.{Steps, Any, Branch, Loop}
 use Rattle.theory.specs.LoopCharts.{InLoop}
 use Rattle.theory.specs.Witnesses.{Layered, Connected}
-use Rattle.theory.specs.Least.{Least}
+use Rattle.theory.specs.Least.{Least, Earlier}
 
 -- checks 33, 34 and 35 of one loop: a way back; no end in the body; lower levels inside
 pub record LoopPasses (S : Steps) (v l : ℕ) : Type 0 where
@@ -46,11 +45,7 @@ pub data LoopFails (S : Steps) (v l : ℕ) : Outcome → Type 0 where
   fails-34 : Plus (InLoop S v l) v v → Plus (InLoop S v l) v 0 → LoopFails S v l (end-inside v l)
   fails-35 : {r : ℕ} → Plus (InLoop S v l) v v → ¬ Plus (InLoop S v l) v 0 → Least (NotLower S v l) r → LoopFails S v l (not-lower v l r)
 
--- loops are taken by vertex and then by level
-abbrev pub Earlier : ℕ → ℕ → ℕ → ℕ → Type 0
-Earlier w m v l = (w < v) ⊎ ((w ≡ v) × (m < l))
-
--- every loop before (v, l) passes
+-- every loop before (v, l), by vertex and then by level, passes
 abbrev pub EarlierPass : Steps → ℕ → ℕ → Type 0
 EarlierPass S v l = (w m : ℕ) → Earlier w m v l → Loop S w m → LoopPasses S w m
 

@@ -3,7 +3,7 @@
 use mathlib.Core.Bool.{Bool, true, false, cond, _&&_, not}
 use Prim.Native.Nat.{ℕ, zero, suc}
 use lib.Dec.{eqb, ltb, leb}
-use Rattle.theory.specs.Tests.{someBelow, lowest}
+use Rattle.theory.specs.Tests.{someBelow, lowest, firstRow}
 use Rattle.theory.specs.Reachability.{reaches, leadsTo}
 use Rattle.theory.specs.Checks.{Outcome, passes, unreached, branch-cycle, no-return, end-inside, not-lower}
 
@@ -55,7 +55,7 @@ module _ (s : StepTest) (size top : ℕ) where
   -- the first loop that fails, by vertex and then by level
   unfoldable pub loopsOutcome : Outcome
   loopsOutcome =
-      let v = lowest (λ u. someBelow (failingTest u) top) 0 size in
+      let v = firstRow failingTest size top in
       cond (ltb v size) (loopOutcome v (lowest (failingTest v) 0 top)) passes
 
   -- the checks in their order

@@ -22,3 +22,5 @@ pub mod Tests
 pub mod Reachability
 pub mod LabellingTests
 pub mod RemovalTests
+pub mod Relations
+pub mod RelationTests

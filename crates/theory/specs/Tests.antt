@@ -16,3 +16,7 @@ someBelow p (suc n) = p n || someBelow p n
 unfoldable pub lowest : (ℕ → Bool) → ℕ → ℕ → ℕ
 lowest p i zero = i
 lowest p i (suc n) = cond (p i) i (lowest p (suc i) n)
+
+-- the row of the first pair below rows and columns that passes, or rows; its column is the lowest that passes there
+unfoldable pub firstRow : (ℕ → ℕ → Bool) → ℕ → ℕ → ℕ
+firstRow p rows columns = lowest (λ u. someBelow (p u) columns) 0 rows
