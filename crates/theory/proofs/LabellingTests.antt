@@ -12,11 +12,13 @@ use Rattle.theory.specs.LoopCharts.{Round, entry, other, InLoop}
 use Rattle.theory.specs.Witnesses.{Layered, Connected}
 use Rattle.theory.specs.Least.{Least, Earlier, FirstPair}
 use Rattle.theory.specs.Checks.{LoopPasses, Passed, Outcome, passes, unreached, branch-cycle, no-return, end-inside, not-lower, Unreached, OnBranchCycle, NotLower, LoopFails, fails-33, fails-34, fails-35, EarlierPass, Checked, all-pass, fails-31, fails-32, fails-loop}
+use Rattle.theory.specs.Orders.{AllLoops}
 use Rattle.theory.specs.Tests.{Decides, someBelow, lowest, firstRow}
 use Rattle.theory.specs.Reachability.{reaches, leadsTo}
-use Rattle.theory.specs.LabellingTests.{StepTest, roundTest, anyTest, loopTest, bodyTest, unreachedTest, cycleTest, notLowerTest, loopOutcome, failed, failingTest, loopsOutcome, outcome}
+use Rattle.theory.specs.LabellingTests.{StepTest, roundTest, anyTest, loopTest, loopList, bodyTest, unreachedTest, cycleTest, notLowerTest, loopOutcome, failed, failingTest, loopsOutcome, outcome}
 use Rattle.theory.proofs.Paths.{star-apart, plus-below}
 use Rattle.theory.proofs.Tests.{decided, test-of, decides-dec, not-so, decides-same, decides-and, decides-not, decides-eqb, decides-ltb, decides-leb, decides-cond, decides-below, lowest-stops, stops-least, first-pair}
+use Rattle.theory.proofs.Pairs.{pairs→, pairs←, pairs-distinct}
 use Rattle.theory.proofs.Reachability.{decides-star, decides-plus}
 use Rattle.theory.proofs.Rounds.{at-start, off-start}
 use Rattle.theory.proofs.Checks.{loop-to}
@@ -36,6 +38,15 @@ module _ {s : StepTest} {S : Steps} {size top : ℕ} (tests : (u l w : ℕ) → 
   pub decides-loop : (v l : ℕ) → Decides (loopTest s size top v l) (Loop S v l)
   unfolding loopTest
   decides-loop v l = decides-same ((λ (h, (w, b, e)). (h, w, e)), (λ (h, w, e). (h, (w, formed .to-vertex v l w e, e)))) (decides-and (decides-ltb 0 l) (decides-below (λ w. tests v l w) size))
+
+  -- the list of the loops has each of them once
+  pub loops-listed : AllLoops S (loopList s size top)
+  unfolding loopList
+  loops-listed = record {
+    every = λ v l o. pairs← (loopTest s size top) size top v l (formed .from-vertex v l (o .1) (o .2) .1, labels v l (o .1) (o .2)) (decides-loop v l .1 o);
+    only = λ v l m. decides-loop v l .0 (pairs→ (loopTest s size top) size top v l m .2);
+    once = pairs-distinct (loopTest s size top) size top;
+  }
 
   pub decides-body : (v l w : ℕ) → Decides (bodyTest s size top v l w) (Plus (InLoop S v l) v w)
   unfolding bodyTest

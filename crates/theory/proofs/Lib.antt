@@ -3,6 +3,7 @@
 pub mod Paths
 pub mod Search
 pub mod Tests
+pub mod Pairs
 pub mod Reachability
 pub mod Cycles
 -- loop charts, and the checks of a labelling

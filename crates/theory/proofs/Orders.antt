@@ -1,53 +1,23 @@
 -- Orders of all loops: one exists, and each runs through, leaves exactly the branches, and then no vertex has an infinite path.
 use mathlib.Core.Path.{_≡_, refl, sym, _∙_, ap, subst}
 use mathlib.Core.Logic.{_≢_, _⊎_, inl, inr, ⊎-elim, _↔_}
-use mathlib.Core.List.{List, [], _∷_, _++_, map, List·Memᴰ, List·Memᴰ·head, List·Memᴰ·tail, List·Memᴰ·cases-cons, List·Memᴰ·not-nil, List·Memᴰ·append-cases, List·Memᴰ·eq-of-singleton, Memᴰ·append-left, Memᴰ·append-right}
-use Prim.Native.Nat.{ℕ, zero, suc, _≤_, _<_}
-use native.Mathlib.Omega.{arith}
-use native.Mathlib.Decide.{ℕ-discrete}
+use mathlib.Core.Bool.{Bool}
+use mathlib.Core.List.{List, [], _∷_, map, List·Memᴰ, List·Memᴰ·head, List·Memᴰ·tail, List·Memᴰ·cases-cons, List·Memᴰ·not-nil, Memᴰ·map, Memᴰ·of-map}
+use Prim.Native.Nat.{ℕ, _<_}
 use Rattle.theory.specs.Paths.{Star, Plus, Endless}
 use Rattle.theory.specs.Charts.{Steps, Formed, Listed, Any, Branch, Loop}
 use Rattle.theory.specs.LoopCharts.{InLoop}
 use Rattle.theory.specs.Checks.{Passed}
 use Rattle.theory.specs.Standing.{Loops, Standing, Inside}
 use Rattle.theory.specs.Removals.{Answer, done, Removes, Plain, left-steps, left-loops, RemovesAll, PlainAll}
-use Rattle.theory.specs.Orders.{Distinct, none, one, Before, at-head, further, Order}
+use Rattle.theory.specs.Orders.{Distinct, Before, Order}
 use Rattle.theory.proofs.Paths.{plus-star, endless-map}
 use Rattle.theory.proofs.Checks.{passed-no-endless}
-use Rattle.theory.proofs.LabellingTests.{decide-loop}
+use Rattle.theory.specs.Tests.{Decides, pairs}
+use Rattle.theory.specs.LabellingTests.{loopTest}
+use Rattle.theory.proofs.LabellingTests.{decides-loop, listed-test, listed-tests}
+use Rattle.theory.proofs.Pairs.{Pair, before-cases, before-second, before-map, distinct-cons, distinct-map, pairs→, pairs←, pairs-distinct, pairs-before}
 use Rattle.theory.proofs.Removals.{Agree, agree-at-first, rule-of, left-agree, left-loops-are, removals-agree}
-
-abbrev Pair : Type 0
-Pair = ℕ × ℕ
-
--- LISTS
-before-cases : {x y z : Pair} {zs : List Pair} → Before x y (z ∷ zs) → ((x ≡ z) × List·Memᴰ y zs) ⊎ Before x y zs
-before-cases (at-head m) = inl (refl, m)
-before-cases (further b) = inr b
-
-before-second : {x y : Pair} {zs : List Pair} → Before x y zs → List·Memᴰ y zs
-before-second (at-head m) = List·Memᴰ·tail m
-before-second (further b) = List·Memᴰ·tail (before-second b)
-
-before-left : {x y : Pair} {xs : List Pair} (ys : List Pair) → Before x y xs → Before x y (xs ++ ys)
-before-left ys (at-head m) = at-head (Memᴰ·append-left ys m)
-before-left ys (further b) = further (before-left ys b)
-
-before-both : {x y : Pair} (xs : List Pair) {ys : List Pair} → List·Memᴰ x xs → List·Memᴰ y ys → Before x y (xs ++ ys)
-before-both [] m n = absurd (List·Memᴰ·not-nil m)
-before-both {x} {y} (z ∷ xs) {ys} m n = go (before-both xs) (List·Memᴰ·cases-cons m)
-  where
-    go : (List·Memᴰ x xs → List·Memᴰ y ys → Before x y (xs ++ ys)) → (x ≡ z) ⊎ List·Memᴰ x xs → Before x y (z ∷ xs ++ ys)
-    go rec (inl e) = rw e (at-head (Memᴰ·append-right xs n))
-    go rec (inr i) = further (rec i n)
-
-distinct-cons : {x : Pair} {xs : List Pair} → Distinct (x ∷ xs) → (¬ List·Memᴰ x xs) × Distinct xs
-distinct-cons (one h d) = (h, d)
-
-distinct-append : {xs ys : List Pair} → Distinct xs → Distinct ys → ((x : Pair) → List·Memᴰ x xs → ¬ List·Memᴰ x ys) → Distinct (xs ++ ys)
-distinct-append none e h = e
-distinct-append {ys = ys} (one {x = x} {xs = xs} g d) e h =
-    one (λ m. ⊎-elim g (h x (List·Memᴰ·head refl)) (List·Memᴰ·append-cases xs m)) (distinct-append d e (λ y m. h y (List·Memᴰ·tail m)))
 
 -- EACH ORDER RUNS THROUGH
 abbrev pub all-done : List Pair → List Answer
@@ -98,9 +68,9 @@ module _ {size : ℕ} {S : Steps} (formed : Formed size S) (passed : Passed S) w
   module _ (xs : List Pair) (order : Order S xs) where
     order-waits : Waiting S (Loop S) xs
     order-waits = record {
-      same = λ v l. (order .every v l, order .only v l);
-      once = order .once;
-      waits = λ v l w m i j. order .waits v l w m (order .only v l i) (order .only w m j);
+      same = λ v l. (order .loops .every v l, order .loops .only v l);
+      once = order .loops .once;
+      waits = λ v l w m i j. order .waits v l w m (order .loops .only v l i) (order .loops .only w m j);
     }
 
     -- an order runs with no refusal
@@ -127,104 +97,34 @@ module _ {size : ℕ} {S : Steps} (formed : Formed size S) (passed : Passed S) w
             branch u w (l, e) = let (s, z) = (left u l w) .0 e in rw z at s
 
 -- AN ORDER EXISTS: by level, and by vertex in each level
+swap : Pair → Pair
+swap x = (x .1, x .0)
+
 module _ {size top : ℕ} {S : Steps} (formed : Formed size S) (listed : Listed top S) where
-  one-if : (v l : ℕ) → Dec (Loop S v l) → List Pair
-  one-if v l (yes o) = (v, l) ∷ []
-  one-if v l (no h) = []
+  -- is (v, l) a loop? The level first
+  by-level : ℕ → ℕ → Bool
+  by-level l v = loopTest (listed-test formed listed) size top v l
 
-  one-if→ : (v l : ℕ) (d : Dec (Loop S v l)) {x : Pair} → List·Memᴰ x (one-if v l d) → (x ≡ (v, l)) × Loop S v l
-  unfolding one-if
-  one-if→ v l (yes o) m = (List·Memᴰ·eq-of-singleton m, o)
-  one-if→ v l (no h) m = absurd (List·Memᴰ·not-nil m)
+  decides-by-level : (l v : ℕ) → Decides (by-level l v) (Loop S v l)
+  unfolding by-level
+  decides-by-level l v = decides-loop (listed-tests formed listed) formed (listed .label-below) v l
 
-  one-if← : (v l : ℕ) (d : Dec (Loop S v l)) → Loop S v l → List·Memᴰ (v, l) (one-if v l d)
-  unfolding one-if
-  one-if← v l (yes o) p = List·Memᴰ·head refl
-  one-if← v l (no h) p = absurd (h p)
+  levels : List Pair
+  levels = pairs by-level top size
 
-  one-if-distinct : (v l : ℕ) (d : Dec (Loop S v l)) → Distinct (one-if v l d)
-  unfolding one-if
-  one-if-distinct v l (yes o) = one List·Memᴰ·not-nil none
-  one-if-distinct v l (no h) = none
-
-  -- the loops of level l at the first n vertices, and those of the first t levels
-  row : ℕ → ℕ → List Pair
-  row l zero = []
-  row l (suc n) = row l n ++ one-if n l (decide-loop formed listed n l)
-
-  rows : ℕ → List Pair
-  rows zero = []
-  rows (suc t) = rows t ++ row t size
-
-  row→ : (l n v m : ℕ) → List·Memᴰ (v, m) (row l n) → (v < n) × (m ≡ l) × Loop S v m
-  unfolding row
-  row→ l zero v m i = absurd (List·Memᴰ·not-nil i)
-  row→ l (suc n) v m i =
-      ⊎-elim (λ j. let r = row→ l n v m j in (omega arith, r .1, r .2))
-      (λ j. let r = one-if→ n l (decide-loop formed listed n l) j in at-last (ap (λ (q : Pair). q .0) (r .0)) (ap (λ (q : Pair). q .1) (r .0)) (r .1))
-      (List·Memᴰ·append-cases (row l n) i)
-    where
-      at-last : v ≡ n → m ≡ l → Loop S n l → (v < suc n) × (m ≡ l) × Loop S v m
-      at-last e f o = (omega arith, f, rw (e, f) o)
-
-  row← : (l n v : ℕ) → v < n → Loop S v l → List·Memᴰ (v, l) (row l n)
-  unfolding row
-  row← l zero v h o = absurd (omega arith)
-  row← l (suc n) v h o = elim (ℕ-discrete v n) [
-    | yes e ↦ Memᴰ·append-right (row l n) (rw e (one-if← n l (decide-loop formed listed n l) (rw e at o)))
-    | no e ↦ Memᴰ·append-left (one-if n l (decide-loop formed listed n l)) (row← l n v (omega arith) o)
-  ]
-
-  row-distinct : (l n : ℕ) → Distinct (row l n)
-  unfolding row
-  row-distinct l zero = none
-  row-distinct l (suc n) = distinct-append (row-distinct l n) (one-if-distinct n l (decide-loop formed listed n l)) (λ x i j. far x i (ap (λ (q : Pair). q .0) ((one-if→ n l (decide-loop formed listed n l) j) .0)))
-    where
-      far : (x : Pair) → List·Memᴰ x (row l n) → x .0 ≡ n → ⊥
-      far (v, m) i e = omega (arith, (row→ l n v m i) .0)
-
-  rows→ : (t v m : ℕ) → List·Memᴰ (v, m) (rows t) → (m < t) × Loop S v m
-  unfolding rows
-  rows→ zero v m i = absurd (List·Memᴰ·not-nil i)
-  rows→ (suc t) v m i =
-      ⊎-elim (λ j. let r = rows→ t v m j in (omega arith, r .1)) (λ j. let r = row→ t size v m j in (omega (arith, r .1), r .2))
-      (List·Memᴰ·append-cases (rows t) i)
-
-  rows← : (t v m : ℕ) → m < t → Loop S v m → List·Memᴰ (v, m) (rows t)
-  unfolding rows
-  rows← zero v m h o = absurd (omega arith)
-  rows← (suc t) v m h o = elim (ℕ-discrete m t) [
-    | yes e ↦ Memᴰ·append-right (rows t) (rw e (row← t size v (vertex-of o) (rw e at o)))
-    | no e ↦ Memᴰ·append-left (row t size) (rows← t v m (omega arith) o)
-  ]
-    where
-      vertex-of : Loop S v m → v < size
-      vertex-of (b, w, s) = (formed .from-vertex v m w s) .1
-
-  rows-distinct : (t : ℕ) → Distinct (rows t)
-  unfolding rows
-  rows-distinct zero = none
-  rows-distinct (suc t) = distinct-append (rows-distinct t) (row-distinct t size) far
-    where
-      far : (x : Pair) → List·Memᴰ x (rows t) → ¬ List·Memᴰ x (row t size)
-      far (v, m) i j = omega (arith, (rows→ t v m i) .0, (row→ t size v m j) .1)
-
-  -- a lower level stands before a higher one
-  rows-before : (t v l w m : ℕ) → l < t → m < l → Loop S v l → Loop S w m → Before (w, m) (v, l) (rows t)
-  unfolding rows
-  rows-before zero v l w m h g o p = absurd (omega arith)
-  rows-before (suc t) v l w m h g o p = elim (ℕ-discrete l t) [
-    | yes e ↦ before-both (rows t) (rows← t w m (omega arith) p) (rw e (row← t size v ((formed .from-vertex v l (o .1) (o .2)) .1) (rw e at o)))
-    | no e ↦ before-left (row t size) (rows-before t v l w m (omega arith) g o p)
-  ]
+  in-range : (v l : ℕ) → Loop S v l → (l < top) × (v < size)
+  in-range v l (h, w, e) = (listed .label-below v l w e, formed .from-vertex v l w e .1)
 
   pub order-exists : Passed S → (xs : List Pair) × Order S xs
+  unfolding levels swap
   order-exists c = (
-    rows top,
+    map swap levels,
     record {
-      every = λ v l o. rows← top v l (listed .label-below v l (o .1) (o .2)) o;
-      only = λ v l i. (rows→ top v l i) .1;
-      once = rows-distinct top;
-      waits = λ v l w m o p h q. rows-before top v l w m (listed .label-below v l (o .1) (o .2)) ((c .loops v l o) .c35 w h (plus-star q) m p) o p;
+      loops = record {
+        every = λ v l o. Memᴰ·map swap (pairs← by-level top size l v (in-range v l o) (decides-by-level l v .1 o));
+        only = λ v l i. let (x, m, e) = Memᴰ·of-map swap levels i in decides-by-level l v .0 (pairs→ by-level top size l v (subst (λ (q : Pair). List·Memᴰ q levels) (ap swap e) m) .2);
+        once = distinct-map swap (λ x y e. ap swap e) (pairs-distinct by-level top size);
+      };
+      waits = λ v l w m o p h q. before-map swap (pairs-before by-level top size m w l v (inl ((c .loops v l o) .c35 w h (plus-star q) m p)) (in-range w m p) (decides-by-level m w .1 p) (in-range v l o) (decides-by-level l v .1 o));
     },
   )

@@ -1,9 +1,10 @@
 -- The checks 31 to 35 as a test that runs, of any labelled chart whose transitions are tested by s: from, label, to. Vertices are
 -- below size, labels below top.
 use mathlib.Core.Bool.{Bool, true, false, cond, _&&_, not}
+use mathlib.Core.List.{List}
 use Prim.Native.Nat.{ℕ, zero, suc}
 use lib.Dec.{eqb, ltb, leb}
-use Rattle.theory.specs.Tests.{someBelow, lowest, firstRow}
+use Rattle.theory.specs.Tests.{someBelow, lowest, firstRow, pairs}
 use Rattle.theory.specs.Reachability.{reaches, leadsTo}
 use Rattle.theory.specs.Checks.{Outcome, passes, unreached, branch-cycle, no-return, end-inside, not-lower}
 
@@ -29,6 +30,10 @@ module _ (s : StepTest) (size top : ℕ) where
 
   unfoldable pub loopTest : ℕ → ℕ → Bool
   loopTest v l = ltb 0 l && someBelow (λ w. s v l w) size
+
+  -- the loops, by vertex and then by level
+  unfoldable pub loopList : List (ℕ × ℕ)
+  loopList = pairs loopTest size top
 
   -- w is in the body of the loop (v, l)
   unfoldable pub bodyTest : ℕ → ℕ → ℕ → Bool

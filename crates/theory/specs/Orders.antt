@@ -16,9 +16,13 @@ pub data Before (x y : ℕ × ℕ) : List (ℕ × ℕ) → Type 0 where
   at-head : {xs : List (ℕ × ℕ)} → List·Memᴰ y xs → Before x y (x ∷ xs)
   further : {z : ℕ × ℕ} {xs : List (ℕ × ℕ)} → Before x y xs → Before x y (z ∷ xs)
 
--- an order of all loops: each loop once, after every loop that starts inside its body, its own start aside
-pub record Order (S : Steps) (xs : List (ℕ × ℕ)) : Type 0 where
+-- every loop once, and nothing else: the length is the number of loops
+pub record AllLoops (S : Steps) (xs : List (ℕ × ℕ)) : Type 0 where
   pub every : (v l : ℕ) → Loop S v l → List·Memᴰ (v, l) xs
   pub only : (v l : ℕ) → List·Memᴰ (v, l) xs → Loop S v l
   pub once : Distinct xs
+
+-- an order of all loops: each after every loop that starts inside its body, its own start aside
+pub record Order (S : Steps) (xs : List (ℕ × ℕ)) : Type 0 where
+  pub loops : AllLoops S xs
   pub waits : (v l w m : ℕ) → Loop S v l → Loop S w m → w ≢ v → Plus (InLoop S v l) v w → Before (w, m) (v, l) xs

@@ -2,6 +2,7 @@
 use mathlib.Core.Path.{_≡_}
 use mathlib.Core.Logic.{_↔_}
 use mathlib.Core.Bool.{Bool, true, false, cond, _||_}
+use mathlib.Core.List.{List, [], _∷_, _++_}
 use Prim.Native.Nat.{ℕ, zero, suc}
 
 abbrev pub Decides : Bool → Type 0 → Type 0
@@ -20,3 +21,15 @@ lowest p i (suc n) = cond (p i) i (lowest p (suc i) n)
 -- the row of the first pair below rows and columns that passes, or rows; its column is the lowest that passes there
 unfoldable pub firstRow : (ℕ → ℕ → Bool) → ℕ → ℕ → ℕ
 firstRow p rows columns = lowest (λ u. someBelow (p u) columns) 0 rows
+
+-- the pairs below rows and columns that pass, by row and then by column: of one row the n columns from v on, and the n rows from u on
+unfoldable pub rowPairs : (ℕ → ℕ → Bool) → ℕ → ℕ → ℕ → List (ℕ × ℕ)
+rowPairs p u v zero = []
+rowPairs p u v (suc n) = cond (p u v) ((u, v) ∷ rowPairs p u (suc v) n) (rowPairs p u (suc v) n)
+
+unfoldable pub pairsFrom : (ℕ → ℕ → Bool) → ℕ → ℕ → ℕ → List (ℕ × ℕ)
+pairsFrom p columns u zero = []
+pairsFrom p columns u (suc n) = rowPairs p u 0 columns ++ pairsFrom p columns (suc u) n
+
+unfoldable pub pairs : (ℕ → ℕ → Bool) → ℕ → ℕ → List (ℕ × ℕ)
+pairs p rows columns = pairsFrom p columns 0 rows
