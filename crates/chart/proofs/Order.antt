@@ -1,0 +1,103 @@
+-- The froms of a well-formed body do not fall, so a number parts its transitions.
+use mathlib.Core.Path.{_≡_, sym, _∙_, subst}
+use mathlib.Core.Logic.{⊎-elim, by-cases}
+use mathlib.Core.List.{List}
+use Prim.Native.Nat.{ℕ, _+_, _-_, _*_, _≤_, _<_}
+use native.Mathlib.Nat.{eq-or-lt-of-le, le-refl}
+use native.Mathlib.Decide.{decLe}
+use native.Mathlib.Omega.{arith}
+use lib.ListN.{length, getD, set, length-set}
+use lib.Seq.{getD-set-same, getD-set-other}
+use borrow.Author.Count.{below-more}
+use Rattle.chart.specs.Bodies.{Bytes, countOf, fromOf, keyAt, WellFormed}
+use Rattle.chart.specs.Leaving.{Split, Rows}
+
+-- of bytes, a lower key has no higher from
+key-from : (b : List ℕ) → Bytes b → (i j : ℕ) → keyAt b i < keyAt b j → fromOf b i ≤ fromOf b j
+key-from b B i j h = omega (arith, B (4 * j + 4 + 1), B (4 * j + 4 + 2))
+
+pub sorted : (b : List ℕ) → Bytes b → WellFormed b → (i j : ℕ) → i ≤ j → j < countOf b → fromOf b i ≤ fromOf b j
+sorted b B W i j l h =
+    ⊎-elim (λ e. subst (λ (x : ℕ). fromOf b i ≤ fromOf b x) e (le-refl _)) (λ m. key-from b B i j (W .ascending i j m h)) (eq-or-lt-of-le l)
+
+-- what a search for the split keeps
+pub record Bracket (b : List ℕ) (n v lo hi : ℕ) : Type 0 where
+  pub order : lo ≤ hi
+  pub within : hi ≤ n
+  pub below : (i : ℕ) → i < lo → fromOf b i < v
+  pub above : (i : ℕ) → hi ≤ i → i < n → v ≤ fromOf b i
+
+module _ (b : List ℕ) (B : Bytes b) (W : WellFormed b) (n v : ℕ) (e : n ≡ countOf b) {lo hi : ℕ} (R : Bracket b n v lo hi) (mid : ℕ) (l : lo ≤ mid) (h : mid < hi) where
+  pub up : fromOf b mid < v → Bracket b n v (mid + 1) hi
+  up t = record {
+    order = omega arith;
+    within = R .within;
+    below = λ k m. omega (arith, sorted b B W k mid (omega arith) (omega arith));
+    above = R .above;
+  }
+
+  pub down : v ≤ fromOf b mid → Bracket b n v lo mid
+  down t = record {
+    order = l;
+    within = omega arith;
+    below = R .below;
+    above = λ k m j. omega (arith, sorted b B W mid k m (omega arith));
+  }
+
+-- a search that has met
+pub met : {b : List ℕ} {n v lo hi : ℕ} → Bracket b n v lo hi → hi ≤ lo → Split b n v lo
+met R h = record { within = omega arith; below = R .below; above = λ k l m. R .above k (omega arith) m }
+
+-- the first transition whose from is not below v parts them
+pub first-above : (b : List ℕ) → Bytes b → WellFormed b → (n v i : ℕ) → n ≡ countOf b → i ≤ n → ((k : ℕ) → k < i → fromOf b k < v) → (i < n → v ≤ fromOf b i) → Split b n v i
+first-above b B W n v i e l below stop = record {
+  within = l;
+  below = below;
+  above = λ k m h. omega (arith, stop (omega arith), sorted b B W i k m (omega arith));
+}
+
+-- the transitions of one vertex stand between the split at it and the split after it
+module _ {b : List ℕ} {n v lo hi : ℕ} (L : Split b n v lo) (H : Split b n (v + 1) hi) where
+  pub low-high : lo ≤ hi
+  low-high =
+      by-cases (decLe lo hi) (λ h. h)
+      (λ h. absurd (omega (arith, L .within, L .below hi (omega arith), H .above hi (le-refl hi) (omega (arith, L .within)))))
+
+  pub at-low : (k : ℕ) → k < lo → fromOf b k ≡ v → ⊥
+  at-low k h e = omega (arith, L .below k h)
+
+  pub at-mid : (k : ℕ) → lo ≤ k → k < hi → fromOf b k ≡ v
+  at-mid k l h = omega (arith, L .above k l (omega (arith, H .within)), H .below k h)
+
+  pub at-high : (k : ℕ) → hi ≤ k → k < n → fromOf b k ≡ v → ⊥
+  at-high k l h e = omega (arith, H .above k l h)
+
+  -- and all of them do
+  pub between : (k : ℕ) → k < n → fromOf b k ≡ v → (lo ≤ k) × (k < hi)
+  between k h e = (
+    by-cases (decLe lo k) (λ g. g) (λ g. absurd (at-low k (omega arith) e)),
+    by-cases (decLe hi k) (λ g. absurd (at-high k g h e)) (λ g. omega arith),
+  )
+
+-- what the loop of `rows` keeps: the entries below v are there, and no transition passed leaves v or above
+pub record RowsBelow (b : List ℕ) (n : ℕ) (r : List ℕ) (at v : ℕ) : Type 0 where
+  pub long : length r ≡ 129
+  pub within : at ≤ n
+  pub passed : (i : ℕ) → i < at → fromOf b i < v
+  pub split : (k : ℕ) → k < v → Split b n k (getD r k 0)
+
+pub rows-more : {b : List ℕ} {n at at′ v : ℕ} {r : List ℕ} → RowsBelow b n r at v → v < 129 → Split b n v at′ → RowsBelow b n (set r v at′) at′ (v + 1)
+rows-more {b} {n} {at} {at′} {v} {r} R h S = record {
+  long = length-set r v at′ ∙ R .long;
+  within = S .within;
+  passed = λ i l. omega (arith, S .below i l);
+  split = below-more (λ (k : ℕ). Split b n k (getD (set r v at′) k 0)) v
+      (λ k l. subst (Split b n k) (sym (getD-set-other r v k at′ 0 (λ e. omega arith))) (R .split k l))
+      (subst (Split b n v) (sym (getD-set-same r v at′ 0 (omega (arith, R .long)))) S);
+}
+
+pub rows-all : {b r : List ℕ} {n at v : ℕ} → n ≡ countOf b → RowsBelow b n r at v → 129 ≤ v → Rows b r
+rows-all {b} {r} e R h = record {
+  long = R .long;
+  split = λ k l. subst (λ (m : ℕ). Split b m k (getD r k 0)) e (R .split k (omega arith));
+}

@@ -1,0 +1,64 @@
+-- The transitions that leave a vertex are one part of the body's bytes.
+use mathlib.Core.Path.{_≡_, refl, ap, _∙_}
+use mathlib.Core.List.{List, [], _++_, append-assoc, append-nil}
+use Prim.Native.Nat.{ℕ, zero, suc, _+_, _-_, _*_, _≤_, _<_}
+use native.Mathlib.Nat.{add-zero, zero-add, add-suc, suc-add}
+use native.Mathlib.Omega.{arith}
+use lib.ListN.{take, drop}
+use lib.Seq.{take-add, drop-drop}
+use borrow.Author.Tests.{eq-eqb, ne-eqb}
+use Rattle.report.specs.declared.Stage.the-variants.{Passed, Refused}
+use Rattle.chart.specs.Bodies.{verticesOf, countOf, fromOf, WellFormed}
+use Rattle.chart.specs.Checks.{checkOf}
+use Rattle.chart.specs.Leaving.{leavingAt, leavingOf, Split}
+use Rattle.chart.proofs.Order.{low-high, at-low, at-mid, at-high}
+
+-- transitions of other vertices give nothing
+skip : (b : List ℕ) (v i d r : ℕ) → ((k : ℕ) → i ≤ k → k < i + d → fromOf b k ≡ v → ⊥) → leavingAt b v i (d + r) ≡ leavingAt b v (i + d) r
+unfolding leavingAt
+skip b v i zero r h = rw (zero-add r, add-zero i)
+skip b v i (suc d) r h = rw (suc-add d r, ne-eqb _ _ (h i (omega arith) (omega arith)), skip b v (suc i) d r (λ k l m. h k (omega arith) (omega arith)), suc-add i d, add-suc i d)
+
+-- those of the vertex give their bytes
+gather : (b : List ℕ) (v i d r : ℕ) → ((k : ℕ) → i ≤ k → k < i + d → fromOf b k ≡ v) → leavingAt b v i (d + r) ≡ take (4 * d) (drop (4 * i + 4) b) ++ leavingAt b v (i + d) r
+unfolding leavingAt
+gather b v i zero r h = rw (zero-add r, add-zero i)
+gather b v i (suc d) r h =
+    let e : 4 * suc d ≡ 4 + 4 * d = omega arith in
+    let f : 4 * suc i + 4 ≡ 4 * i + 4 + 4 = omega arith in
+    rw (suc-add d r, eq-eqb _ _ (h i (omega arith) (omega arith)), gather b v (suc i) d r (λ k l m. h k (omega arith) (omega arith)), e, take-add 4, drop-drop 4, append-assoc, f, suc-add i d, add-suc i d)
+
+at-end : (b : List ℕ) (v i : ℕ) → leavingAt b v i 0 ≡ []
+unfolding leavingAt
+at-end b v i = refl
+
+none-leave : (b : List ℕ) (v i n : ℕ) → ((k : ℕ) → i ≤ k → k < i + n → fromOf b k ≡ v → ⊥) → leavingAt b v i n ≡ []
+none-leave b v i n h =
+    let e : n ≡ n + 0 = omega arith in
+    ap (leavingAt b v i) e ∙ skip b v i n 0 h ∙ at-end b v (i + n)
+
+module _ (b : List ℕ) (n v lo hi : ℕ) (L : Split b n v lo) (H : Split b n (v + 1) hi) where
+  pub leaving-part : take (4 * hi + 4 - (4 * lo + 4)) (drop (4 * lo + 4) b) ≡ leavingAt b v 0 n
+  leaving-part =
+      let lh = low-high L H in
+      let hn = H .within in
+      let e₁ : n ≡ lo + (n - lo) = omega arith in
+      let e₂ : n - lo ≡ (hi - lo) + (n - hi) = omega arith in
+      let e₃ : lo + (hi - lo) ≡ hi = omega arith in
+      let e₅ : 4 * hi + 4 - (4 * lo + 4) ≡ 4 * (hi - lo) = omega arith in
+      let s₁ : leavingAt b v 0 (lo + (n - lo)) ≡ leavingAt b v (0 + lo) (n - lo) = skip b v 0 lo (n - lo) (λ k l h. at-low L H k (omega arith)) in
+      let s₂ : leavingAt b v lo ((hi - lo) + (n - hi)) ≡ take (4 * (hi - lo)) (drop (4 * lo + 4) b) ++ leavingAt b v (lo + (hi - lo)) (n - hi) = gather b v lo (hi - lo) (n - hi) (λ k l h. at-mid L H k l (omega arith)) in
+      let s₃ : leavingAt b v hi (n - hi) ≡ [] = none-leave b v hi (n - hi) (λ k l h. at-high L H k l (omega arith)) in
+      cc (zero-add lo, append-nil (take (4 * (hi - lo)) (drop (4 * lo + 4) b)))
+
+pub leaving-passed : (b : List ℕ) (v : ℕ) → checkOf b ≡ Passed → leavingOf b v ≡ leavingAt b v 0 (countOf b)
+unfolding leavingOf
+leaving-passed b v e = rw e
+
+pub leaving-refused : (b : List ℕ) (v : ℕ) {p : _} → checkOf b ≡ Refused p → leavingOf b v ≡ []
+unfolding leavingOf
+leaving-refused b v e = rw e
+
+-- no transition leaves a number of V or above
+pub leaving-high : (b : List ℕ) (v : ℕ) → WellFormed b → verticesOf b ≤ v → leavingAt b v 0 (countOf b) ≡ []
+leaving-high b v W h = none-leave b v 0 (countOf b) (λ k l m e. omega (arith, W .each k (omega arith) .from-high))
