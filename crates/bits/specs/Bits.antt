@@ -1,9 +1,13 @@
--- Sets of numbers as bits of bytes (document 01: byte v÷8, bit worth 2^(v mod 8)).
-use Prim.Native.Nat.{ℕ, _/_, _%_, _^_}
+-- Lists of bytes, and sets of numbers as their bits (document 01: byte v÷8, bit worth 2^(v mod 8)).
+use Prim.Native.Nat.{ℕ, _/_, _%_, _^_, _<_}
 use mathlib.Core.Bool.{Bool}
 use mathlib.Core.List.{List}
 use lib.ListN.{getD}
 use lib.Dec.{eqb}
+
+-- every element is a byte, as those of a slice of bytes are
+abbrev pub Bytes : List ℕ → Type 0
+Bytes b = (k : ℕ) → getD b k 0 < 256
 
 -- whether v is in the set; past the last byte nothing is
 abbrev pub hasBit : List ℕ → ℕ → Bool

@@ -9,7 +9,8 @@ use native.Mathlib.Omega.{arith}
 use lib.ListN.{length, getD, set, length-set}
 use lib.Seq.{getD-set-same, getD-set-other}
 use borrow.Author.Count.{below-more}
-use Rattle.chart.specs.Bodies.{Bytes, countOf, fromOf, keyAt, WellFormed}
+use Rattle.bits.specs.Bits.{Bytes}
+use Rattle.chart.specs.Bodies.{countOf, fromOf, keyAt, WellFormed}
 use Rattle.chart.specs.Leaving.{Split, Rows}
 
 -- of bytes, a lower key has no higher from

@@ -1,5 +1,5 @@
 -- From bytes to the theory's relations.
-use mathlib.Core.Path.{_≡_, refl, sym, ap}
+use mathlib.Core.Path.{_≡_, refl, sym, ap, _∙_}
 use mathlib.Core.Logic.{_↔_, _⊎_, inl, inr, ⊎-elim, by-cases}
 use mathlib.Core.Bool.{true}
 use mathlib.Core.List.{List, List·Memᴰ, List·Memᴰ·head, List·Memᴰ·tail, List·Memᴰ·not-nil, List·Memᴰ·cases-cons, Memᴰ·cast}
@@ -13,7 +13,8 @@ use Rattle.theory.specs.Ascending.{Ascending}
 use Rattle.theory.specs.Charts.{Formed, Listed, Any, Branch}
 use Rattle.theory.specs.Transitions.{Transition, precedes}
 use Rattle.theory.proofs.Search.{look-below}
-use Rattle.chart.specs.Bodies.{Bytes, verticesOf, countOf, fromOf, actionOf, toOf, keyAt, WellFormed}
+use Rattle.bits.specs.Bits.{Bytes}
+use Rattle.chart.specs.Bodies.{verticesOf, countOf, fromOf, actionOf, toOf, keyAt, WellFormed}
 use Rattle.chart.specs.Reached.{Kept}
 use Rattle.chart.specs.Steps.{transitionAt, transitionsFrom, transitionsOf, ActsOf, StepsOf, StandingOf}
 
@@ -26,6 +27,16 @@ from-length b i (suc n) = ap suc (from-length b (suc i) n)
 pub transitions-length : (b : List ℕ) → length (transitionsOf b) ≡ countOf b
 unfolding transitionsOf
 transitions-length b = from-length b 0 (countOf b)
+
+from-at : (b : List ℕ) (i n k : ℕ) (z : Transition) → k < n → getD (transitionsFrom b i n) k z ≡ transitionAt b (i + k)
+unfolding transitionsFrom
+from-at b i zero k z h = absurd (omega arith)
+from-at b i (suc n) zero z h = ap (transitionAt b) (omega arith)
+from-at b i (suc n) (suc k) z h = from-at b (suc i) n k z (omega arith) ∙ ap (transitionAt b) (omega arith)
+
+pub transitions-at : (b : List ℕ) (i : ℕ) (z : Transition) → i < countOf b → getD (transitionsOf b) i z ≡ transitionAt b i
+unfolding transitionsOf
+transitions-at b i z h = from-at b 0 (countOf b) i z h ∙ ap (transitionAt b) (omega arith)
 
 -- an index among the n from i on at which t stands
 abbrev Stands : List ℕ → ℕ → ℕ → Transition → Type 0

@@ -4,10 +4,6 @@ use mathlib.Core.Path.{_≡_}
 use mathlib.Core.List.{List}
 use lib.ListN.{length, getD}
 
--- every element is a byte, as those of a slice of bytes are
-abbrev pub Bytes : List ℕ → Type 0
-Bytes b = (k : ℕ) → getD b k 0 < 256
-
 -- the header's numbers: V, the start, T
 abbrev pub verticesOf : List ℕ → ℕ
 verticesOf b = getD b 0 0

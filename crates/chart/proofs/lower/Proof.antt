@@ -3,7 +3,8 @@ use Prim.Native.Nat.{_-_}
 use native.Mathlib.Nat.{le-refl}
 use native.Mathlib.Omega.{arith}
 use borrow.Author.Needs.{needs}
-use Rattle.chart.specs.Bodies.{Bytes, countOf, WellFormed}
+use Rattle.bits.specs.Bits.{Bytes}
+use Rattle.chart.specs.Bodies.{countOf, WellFormed}
 use Rattle.chart.proofs.Order.{Bracket, up, down, met}
 use Rattle.chart.proofs.Checks.{well-formed}
 use Rattle.chart.proofs.lower.Statement.{statement}

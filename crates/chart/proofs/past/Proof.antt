@@ -3,7 +3,8 @@ use Prim.Native.Nat.{ℕ, _≤_, _<_, _-_}
 use native.Mathlib.Omega.{arith}
 use borrow.Author.Count.{below-more}
 use borrow.Author.Needs.{needs}
-use Rattle.chart.specs.Bodies.{Bytes, countOf, fromOf, WellFormed}
+use Rattle.bits.specs.Bits.{Bytes}
+use Rattle.chart.specs.Bodies.{countOf, fromOf, WellFormed}
 use Rattle.chart.proofs.Order.{first-above}
 use Rattle.chart.proofs.Checks.{well-formed}
 use Rattle.chart.proofs.past.Statement.{statement}

@@ -1,0 +1,12 @@
+-- The laws of the definitions.
+pub mod Table
+pub mod View
+pub mod Uses
+pub mod Answers
+pub mod Aims
+pub mod KeyLaws
+pub mod Firsts
+pub mod Rows
+pub mod Sweeps
+pub mod Bodies
+pub mod Chart

@@ -1,0 +1,183 @@
+-- The checks 10, 11 and 12: what each answer says, and that a body that passes is a tree.
+use Prim.Native.Nat.{ℕ, zero, suc, _+_, _-_, _%_, _<_, _≤_}
+use mathlib.Core.Path.{_≡_, refl, sym, _∙_, subst}
+use mathlib.Core.Bool.{Bool, true, false, cond, _&&_, not, false≢true}
+use mathlib.Core.Logic.{⊎-elim}
+use mathlib.Core.List.{List}
+use native.Mathlib.Nat.{eq-or-lt-of-le, sub-zero}
+use native.Mathlib.Numerals.{add-one}
+use native.Mathlib.Omega.{arith}
+use lib.Dec.{eqb, ltb, leb}
+use lib.ListN.{length}
+use borrow.Author.Tests.{not-true, not-false, eqb-true, eqb-false, ltb-true, ltb-false, leb-true, eq-eqb, le-ltb, lt-ltb, le-leb}
+use Rattle.report.specs.declared.Place.the-variants as place
+use Rattle.report.specs.declared.Stage.{Stage}
+use Rattle.report.specs.declared.Stage.the-variants.{Passed, Refused}
+use Rattle.theory.specs.Nodes.{Op, op-sum, op-product, op-star, Node, bad, dead, leaf, bin, Tree}
+use Rattle.theory.specs.Tests as tests
+use Rattle.theory.proofs.Tests.{lowest-stops}
+use Rattle.expression.specs.Table.{kindOf, actionOf, leftOf, rightOf, branch, parse, node, isGood, count, lowest, lengthOk, nodeOk, malformed, usesOf, usedOnce, misused, checkOf, Sized, NodeAt, WellFormed, Checked, passed, ill-sized, malformed-at, misused-at}
+
+-- operands are lower than their node
+abbrev Low : ℕ → Node → Type 0
+Low k bad = Unit {0}
+Low k dead = Unit {0}
+Low k (leaf a) = Unit {0}
+Low k (bin o l r) = (l < k) × (r < k)
+
+either : (k : ℕ) (b : Bool) (x y : Node) → Low k x → Low k y → Low k (cond b x y)
+either k true x y p q = p
+either k false x y p q = q
+
+branch-low : (k : ℕ) (o : Op) (a l r : ℕ) → Low k (branch k o a l r)
+branch-low k o a l r = go (eqb a 0) (ltb l k) (ltb r k) refl refl
+  where
+    go : (t u w : Bool) → ltb l k ≡ u → ltb r k ≡ w → Low k (cond (t && u && w) (bin o l r) bad)
+    go false u w p q = tt
+    go true false w p q = tt
+    go true true false p q = tt
+    go true true true p q = (ltb-true l k p, ltb-true r k q)
+
+parse-low : (k m a l r : ℕ) → Low k (parse k m a l r)
+parse-low k m a l r =
+    either k (eqb m 0) _ _ (either k (eqb a 0 && eqb l 0 && eqb r 0) _ _ tt tt)
+    (either k (eqb m 1) _ _ (either k (ltb 0 a && eqb l 0 && eqb r 0) _ _ tt tt)
+    (either k (eqb m 2) _ _ (branch-low k op-sum a l r)
+    (either k (eqb m 3) _ _ (branch-low k op-product a l r)
+    (either k (eqb m 4) _ _ (branch-low k op-star a l r) tt))))
+
+pub node-low : (s : List ℕ) (k : ℕ) (o : Op) (l r : ℕ) → node s k ≡ bin o l r → (l < k) × (r < k)
+unfolding node
+node-low s k o l r e = subst (Low k) e (parse-low k (kindOf s k) (actionOf s k) (leftOf s k) (rightOf s k))
+
+-- the lowest number at which a test fails
+module _ (ok : ℕ → Bool) where
+  abbrev Lowest : ℕ → ℕ → ℕ → Type 0
+  Lowest i m r = (i ≤ r) × (r ≤ i + m) × (r < i + m → ok r ≡ false) × ((k : ℕ) → i ≤ k → k < r → ok k ≡ true)
+
+  lowest-law : (i m : ℕ) → Lowest i m (lowest ok i m)
+  unfolding lowest
+  lowest-law i m =
+      let r = lowest-stops (λ k. not (ok k)) i m in
+      (r .from, r .within, (λ h. not-true _ (r .passes h)), (λ k h q. not-false _ (r .below k h q)))
+
+  pub lowest-step : (i n : ℕ) → i < n → ok i ≡ true → lowest ok i (n - i) ≡ lowest ok (i + 1) (n - (i + 1))
+  unfolding lowest tests.lowest
+  lowest-step i n h e = let r : n - i ≡ suc (n - (i + 1)) = omega arith in rw (r, add-one i, e)
+
+  pub lowest-stop : (i n : ℕ) → i < n → ok i ≡ false → lowest ok i (n - i) ≡ i
+  unfolding lowest tests.lowest
+  lowest-stop i n h e = let r : n - i ≡ suc (n - (i + 1)) = omega arith in rw (r, e)
+
+  pub lowest-end : (i n : ℕ) → n ≤ i → lowest ok i (n - i) ≡ i
+  unfolding lowest tests.lowest
+  lowest-end i n h = let r : n - i ≡ 0 = omega arith in rw r
+
+pub malformed-start : (s : List ℕ) (n : ℕ) → n ≡ count s → lowest (nodeOk s) 0 (n - 0) ≡ malformed s
+unfolding malformed
+malformed-start s n e = rw (sub-zero n, e)
+
+pub lowest-same : (f g : ℕ → Bool) (i m : ℕ) → ((k : ℕ) → k < i + m → f k ≡ g k) → lowest f i m ≡ lowest g i m
+unfolding lowest tests.lowest
+lowest-same f g i zero h = refl
+lowest-same f g i (suc m) h = rw (h i (omega arith), lowest-same f g (suc i) m (λ k q. h k (omega arith)))
+
+all-pass : (ok : ℕ → Bool) (m : ℕ) → ((k : ℕ) → k < m → ok k ≡ true) → m ≤ lowest ok 0 m
+all-pass ok m h = go (ltb (lowest ok 0 m) m) refl
+  where
+    l : Lowest ok 0 m (lowest ok 0 m)
+    l = lowest-law ok 0 m
+
+    go : (b : Bool) → ltb (lowest ok 0 m) m ≡ b → m ≤ lowest ok 0 m
+    go false e = ltb-false _ _ e
+    go true e =
+        let q = ltb-true _ _ e in
+        absurd (false≢true (sym (l .2 (omega arith)) ∙ h _ q))
+
+pub all-good : (s : List ℕ) (n : ℕ) → n ≡ count s → n ≤ malformed s → (k : ℕ) → k < count s → isGood (node s k) ≡ true
+unfolding malformed
+all-good s n e h k q = lowest-law (nodeOk s) 0 (count s) .3 k (omega arith) (omega arith)
+
+-- 10
+both : (a b c : Bool) → a && b && c ≡ true → (a ≡ true) × (b ≡ true) × (c ≡ true)
+both false b c e = absurd (false≢true e)
+both true false c e = absurd (false≢true e)
+both true true c e = (refl, refl, e)
+
+module _ (s : List ℕ) where
+  pub sizes : lengthOk s ≡ true → Sized s
+  unfolding count
+  sizes e =
+      let t = both (ltb 0 (length s)) (leb (length s) 508) (eqb (length s % 4) 0) e in
+      let x = ltb-true 0 (length s) (t .0) in
+      let y = leb-true (length s) 508 (t .1) in
+      let z = eqb-true (length s % 4) 0 (t .2) in
+      record { some = omega arith; few = omega arith; whole = omega arith }
+
+  pub sizes← : Sized s → lengthOk s ≡ true
+  unfolding count
+  sizes← z =
+      let a = z .some in
+      let b = z .few in
+      let c = z .whole in
+      rw (lt-ltb 0 (length s) (omega arith), le-leb (length s) 508 (omega arith), eq-eqb (length s % 4) 0 (omega arith))
+
+  -- each answer of the checks, with what it says
+  pub checked : Checked s (checkOf s)
+  unfolding checkOf malformed misused
+  checked = at-10 (lengthOk s) refl
+    where
+      at-12 : (b : Bool) → ltb (misused s) (count s - 1) ≡ b → Sized s → ((k : ℕ) → k < count s → isGood (node s k) ≡ true)
+          → Checked s (cond b (Refused (place.NodeUses (misused s) (usesOf s (misused s)))) Passed)
+      at-12 true e z g =
+          let l = lowest-law (usedOnce s) 0 (count s - 1) in
+          let h : misused s < count s - 1 = ltb-true _ _ e in
+          misused-at (misused s) z g (omega arith) (eqb-false _ 1 (l .2 (omega arith))) (λ j q. eqb-true _ 1 (l .3 j (omega arith) q))
+      at-12 false e z g =
+          let l = lowest-law (usedOnce s) 0 (count s - 1) in
+          let h : count s - 1 ≤ misused s = ltb-false _ _ e in
+          passed (record { sized = z; good = g; once = λ j q. eqb-true _ 1 (l .3 j (omega arith) (omega arith)) })
+
+      at-11 : (b : Bool) → ltb (malformed s) (count s) ≡ b → Sized s
+          → Checked s (cond b (Refused (place.Node (malformed s))) (cond (ltb (misused s) (count s - 1)) (Refused (place.NodeUses (misused s) (usesOf s (misused s)))) Passed))
+      at-11 true e z =
+          let l = lowest-law (nodeOk s) 0 (count s) in
+          let h : malformed s < count s = ltb-true _ _ e in
+          malformed-at (malformed s) z h (l .2 (omega arith)) (λ k q. l .3 k (omega arith) q)
+      at-11 false e z =
+          let l = lowest-law (nodeOk s) 0 (count s) in
+          let h : count s ≤ malformed s = ltb-false _ _ e in
+          at-12 (ltb (misused s) (count s - 1)) refl z (λ k q. l .3 k (omega arith) (omega arith))
+
+      at-10 : (b : Bool) → lengthOk s ≡ b
+          → Checked s (cond b
+          (cond (ltb (malformed s) (count s)) (Refused (place.Node (malformed s)))
+          (cond (ltb (misused s) (count s - 1)) (Refused (place.NodeUses (misused s) (usesOf s (misused s)))) Passed))
+          (Refused (place.NodesLength (length s))))
+      at-10 true e = at-11 (ltb (malformed s) (count s)) refl (sizes e)
+      at-10 false e = ill-sized (λ z. false≢true (sym e ∙ sizes← z))
+
+  pub passed→well-formed : checkOf s ≡ Passed → WellFormed s
+  passed→well-formed e = go (checkOf s) checked e
+    where
+      go : (g : Stage) → Checked s g → g ≡ Passed → WellFormed s
+      go _ (passed w) q = w
+      go _ (ill-sized f) q = absurd (let z : _≡_ {A = ℕ} 0 1 = cc in omega arith)
+      go _ (malformed-at p a b d f) q = absurd (let z : _≡_ {A = ℕ} 0 1 = cc in omega arith)
+      go _ (misused-at p a b d f g) q = absurd (let z : _≡_ {A = ℕ} 0 1 = cc in omega arith)
+
+  pub well-formed→passed : WellFormed s → checkOf s ≡ Passed
+  unfolding checkOf malformed misused
+  well-formed→passed w =
+      let z = w .sized .some in
+      rw (
+        sizes← (w .sized),
+        le-ltb _ _ (all-pass (nodeOk s) (count s) (w .good)),
+        le-ltb _ _ (all-pass (usedOnce s) (count s - 1) (λ j h. eq-eqb _ 1 (w .once j (omega arith)))),
+      )
+
+pub tree : (s : List ℕ) → WellFormed s → Tree (node s) (count s)
+tree s w = record { low = λ k o l r h e. node-low s k o l r e; once = w .once }
+
+pub node-at : (s : List ℕ) → WellFormed s → (k : ℕ) → k < count s → NodeAt s k
+node-at s w k h = record { sized = w .sized; inside = h; good = w .good k h }

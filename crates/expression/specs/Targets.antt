@@ -1,0 +1,30 @@
+-- Where every node leads, from the root down: the climb of document 01, each node's answer taken from its parent's.
+use Prim.Native.Nat.{ℕ, _+_, _-_, _<_}
+use mathlib.Core.Path.{_≡_}
+use mathlib.Core.List.{List}
+use lib.ListN.{length, getD, set}
+use Rattle.theory.specs.Nodes.{Op, op-sum, op-product, op-star, Node, bad, dead, leaf, bin, after}
+use Rattle.theory.specs.ExpressionCharts.{vertexOf}
+use Rattle.expression.specs.Table.{node, count}
+
+-- the vertex that is reached after node j
+unfoldable pub targetOf : List ℕ → ℕ → ℕ
+targetOf s j = vertexOf (after (node s) (count s) j)
+
+-- after the left operand of node k, whose operator, right operand and own target are given
+abbrev pub aimLeft : Op → ℕ → ℕ → ℕ → ℕ
+aimLeft op-sum k r t = t
+aimLeft op-product k r t = r + 1
+aimLeft op-star k r t = k + 1
+
+-- the targets of the operands of node k, from its own
+abbrev pub aim : ℕ → Node → List ℕ → List ℕ
+aim k bad a = a
+aim k dead a = a
+aim k (leaf x) a = a
+aim k (bin o l r) a = set (set a l (aimLeft o k r (getD a k 0))) r (getD a k 0)
+
+-- a has the targets of all nodes
+pub record Targets (s : List ℕ) (a : List ℕ) : Type 0 where
+  pub long : length a ≡ 128
+  pub each : (j : ℕ) → j < count s → getD a j 0 ≡ targetOf s j

@@ -1,0 +1,65 @@
+// Kind 1: the checks of an expression's nodes, and its chart written as a chart body.
+mod body;
+mod marks;
+mod nodes;
+mod ranks;
+mod targets;
+
+use body::write_body;
+use marks::count_transitions;
+use nodes::check_nodes;
+use nodes::length_ok;
+use nodes::node_count;
+use ranks::collect_keys;
+use ranks::rank_nodes;
+use report::Place;
+use report::Stage;
+use report::Written;
+use targets::find_targets;
+ghost use mathlib.Core.Path.{_≡_};
+ghost use lib.ListN.{length};
+ghost use Rattle.expression.specs.Table.{checkOf, WellFormed};
+ghost use Rattle.expression.specs.Body.{writtenOf, bufferOf};
+
+// The checks of an expression's nodes: 10, 11, 12.
+pub fn check(nodes: &[u8]) -> Stage
+    ensures { λ r. ⌜ r ≡ checkOf (now (nodes .entry)) ⌝ }
+{
+    if !length_ok(nodes) {
+        return Stage::Refused(Place::NodesLength(nodes.len()));
+    }
+    check_nodes(nodes)
+}
+
+// The chart of nodes that pass: 54, or the body. The transitions are counted before anything is
+// written, since a refusal changes nothing.
+fn write_passed(nodes: &[u8], out: &mut [u8]) -> Written
+    requires { ⌜ WellFormed (now nodes) ⌝ }
+    ensures { λ r. ⌜ (r ≡ writtenOf (now (nodes .entry)) (length (now (out .entry))))
+        × (now (out .exit) ≡ bufferOf (now (nodes .entry)) (now (out .entry))) ⌝ }
+{
+    let n = node_count(nodes);
+    let targets = find_targets(nodes, n);
+    let mut keys = [0usize; 128];
+    let m = collect_keys(nodes, n, &targets, &mut keys);
+    let ranks = rank_nodes(nodes, n, &targets, &keys, m);
+    let t = count_transitions(nodes, n, &ranks, m);
+    let needed = 4 + 4 * t;
+    if out.len() < needed {
+        return Written::Refused(Place::OutputLength(needed));
+    }
+    write_body(out, nodes, n, &ranks, &keys, m, t);
+    Written::Length(needed)
+}
+
+// Writes the expression's chart into the lent bytes, those past it being kept. The answer is its
+// length in bytes, or the first refusal of 10, 11, 12 and 54.
+pub fn write_chart(nodes: &[u8], out: &mut [u8]) -> Written
+    ensures { λ r. ⌜ (r ≡ writtenOf (now (nodes .entry)) (length (now (out .entry))))
+        × (now (out .exit) ≡ bufferOf (now (nodes .entry)) (now (out .entry))) ⌝ }
+{
+    match check(nodes) {
+        Stage::Refused(place) => Written::Refused(place),
+        Stage::Passed => write_passed(nodes, out),
+    }
+}
