@@ -1,0 +1,5 @@
+-- The laws.
+pub mod Rows
+pub mod Searching
+pub mod PairChecks
+pub mod Relations

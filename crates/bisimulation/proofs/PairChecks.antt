@@ -1,0 +1,122 @@
+-- 43 to 45 of a pair, of a row and of all rows: what the loops keep, and what their answers say.
+use mathlib.Core.Path.{_≡_, refl, sym, subst}
+use mathlib.Core.Logic.{inl, inr, ⊎-elim, _↔_}
+use mathlib.Core.Bool.{Bool, true, false, Bool·beq, false≢true}
+use mathlib.Core.List.{List}
+use Prim.Native.Nat.{ℕ, _+_, _*_, _≤_, _<_}
+use native.Mathlib.Nat.{eq-or-lt-of-le, le-refl}
+use native.Mathlib.Omega.{arith}
+use lib.Dec.{eqb}
+use lib.ListN.{getD}
+use Rattle.theory.specs.Least.{Least, Earlier}
+use Rattle.theory.specs.Tests.{Decides}
+use Rattle.theory.proofs.Tests.{decides-eqb, not-so}
+use Rattle.theory.specs.Relations.{Matched, Unmatched, AllMatched, fails-pair}
+use Rattle.bits.specs.Bits.{Bytes}
+use Rattle.chart.specs.Bodies.{verticesOf, startOf, countOf, fromOf, actionOf, toOf, WellFormed}
+use Rattle.chart.specs.Leaving.{Rows, Split}
+use Rattle.chart.proofs.Order.{low-high, at-mid, between}
+use Rattle.bisimulation.specs.Relations.{indexedOf}
+use Rattle.report.specs.declared.Place.{Place}
+use Rattle.report.specs.declared.Place.the-variants.{PairNoVertex}
+use Rattle.report.specs.declared.Stage.{Stage}
+use Rattle.report.specs.declared.Stage.the-variants.{Passed, Refused}
+use Rattle.bisimulation.specs.Answers.{Related, Stray, Passes, Fails, PairAnswer, RowAnswer, CheckedAnswer, StrayAnswer, FirstColumn, Part, MatchBetween, FirstUnmatched}
+use Rattle.bisimulation.proofs.Rows.{related-column}
+
+-- a vertex has an entry, and a next one, among the 129 of `chart::rows`
+pub low : {b : List ℕ} {v : ℕ} → WellFormed b → v < verticesOf b → v < 128
+low W h = omega (arith, W .header .vertices-high)
+
+-- the transitions of a vertex: their actions do not fall
+pub vertex-part : {b rows : List ℕ} → Bytes b → WellFormed b → Rows b rows → (v : ℕ) → v < 128 → Part b (getD rows v 0) (getD rows (v + 1) 0)
+vertex-part {b} {rows} B W R v h = record {
+  order = low-high L H;
+  long = omega (arith, H .within, W .header .whole);
+  rising = λ j k l m n. ⊎-elim (λ e. subst (λ (i : ℕ). actionOf b j ≤ actionOf b i) e (le-refl _)) (λ g. climbs j k l g n) (eq-or-lt-of-le m);
+  targets = λ k l m. W .each k (omega (arith, H .within)) .to-high;
+}
+  where
+    L : Split b (countOf b) v (getD rows v 0)
+    L = R .split v (omega arith)
+
+    H : Split b (countOf b) (v + 1) (getD rows (v + 1) 0)
+    H = R .split (v + 1) (omega arith)
+
+    climbs : (j k : ℕ) → getD rows v 0 ≤ j → j < k → k < getD rows (v + 1) 0 → actionOf b j ≤ actionOf b k
+    climbs j k l g n = omega (arith, W .ascending j k g (omega (arith, H .within)), at-mid L H j l (omega arith), at-mid L H k (omega arith) n, B (4 * k + 4 + 2))
+
+-- a search through the transitions of u for one that v's do not match
+module _ {one rows other columns : List ℕ} {R : ℕ → ℕ → Type 0} (A : Rows one rows) (B : Rows other columns) {u v r : ℕ} (p : u < 128) (q : v < 128) (F : FirstUnmatched one (getD rows u 0) (getD rows (u + 1) 0) other (getD columns v 0) (getD columns (v + 1) 0) R r) where
+  matched-of : (i : ℕ) → MatchBetween other R (actionOf one i) (toOf one i) (getD columns v 0) (getD columns (v + 1) 0) → Matched (indexedOf one) (indexedOf other) R v i
+  matched-of i m = (m .index, omega (arith, m .below, B .split (v + 1) (omega arith) .within), at-mid (B .split v (omega arith)) (B .split (v + 1) (omega arith)) (m .index) (m .from) (m .below), m .acts, m .relates)
+
+  of-matched : (i : ℕ) → Matched (indexedOf one) (indexedOf other) R v i → MatchBetween other R (actionOf one i) (toOf one i) (getD columns v 0) (getD columns (v + 1) 0)
+  of-matched i (j, h, f, a, t) =
+      let (l, g) = between (B .split v (omega arith)) (B .split (v + 1) (omega arith)) j h f in
+      record { index = j; from = l; below = g; acts = a; relates = t }
+
+  here : (k : ℕ) → k < countOf one → fromOf one k ≡ u → (getD rows u 0 ≤ k) × (k < getD rows (u + 1) 0)
+  here = between (A .split u (omega arith)) (A .split (u + 1) (omega arith))
+
+  pub first-least : r < getD rows (u + 1) 0 → Least (Unmatched (indexedOf one) (indexedOf other) R u v) r
+  first-least h = record {
+    holds = (omega (arith, A .split (u + 1) (omega arith) .within), at-mid (A .split u (omega arith)) (A .split (u + 1) (omega arith)) r (F .from) h, λ m. F .unmatched h (of-matched r m));
+    lowest = λ k l (b, f, n). n (matched-of k (F .below k (here k b f .0) l));
+  }
+
+  pub first-none : getD rows (u + 1) 0 ≤ r → AllMatched (indexedOf one) (indexedOf other) R u v
+  first-none h i b f = let (l, g) = here i b f in matched-of i (F .below i l (omega arith))
+
+-- 43: the test of the ends
+pub decides-ends : (u v : ℕ) → Decides (Bool·beq (eqb u 0) (eqb v 0)) ((u ≡ 0) ↔ (v ≡ 0))
+decides-ends u v = go (eqb u 0) (eqb v 0) (decides-eqb u 0) (decides-eqb v 0)
+  where
+    go : (a b : Bool) → Decides a (u ≡ 0) → Decides b (v ≡ 0) → Decides (Bool·beq a b) ((u ≡ 0) ↔ (v ≡ 0))
+    go true true d e = ((λ h. ((λ q. e .0 refl), (λ q. d .0 refl))), (λ h. refl))
+    go true false d e = ((λ h. absurd (false≢true h)), (λ h. absurd (not-so e refl (h .0 (d .0 refl)))))
+    go false true d e = ((λ h. absurd (false≢true h)), (λ h. absurd (not-so d refl (h .1 (e .0 refl)))))
+    go false false d e = ((λ h. ((λ q. absurd (not-so d refl q)), (λ q. absurd (not-so e refl q)))), (λ h. refl))
+
+passed-refused : {s : Stage} {p : Place} → s ≡ Passed → ¬ (s ≡ Refused p)
+passed-refused e f = let z : _≡_ {A = ℕ} 0 1 = cc in omega arith
+
+module _ (body : List ℕ) {relation : List ℕ} {columns u v : ℕ} (e : columns ≡ verticesOf body) (C : FirstColumn relation u columns v) where
+  -- 41: a row, and the rows before it
+  pub stray-first : ((a : ℕ) → a < u → (w : ℕ) → ¬ Stray body relation a w) → v < 128 → StrayAnswer body relation (Refused (PairNoVertex u v))
+  stray-first h l = record {
+    passed = λ q. absurd (passed-refused q refl);
+    refused = λ p q. (u, v, record { holds = (omega (arith, C .from), C .related l); earlier = earlier }, refl);
+  }
+    where
+      earlier : (a b : ℕ) → Earlier a b u v → ¬ Stray body relation a b
+      earlier a b g s = ⊎-elim (λ k. h a k b s) (λ (k, m). C .below b (omega (arith, s .0)) m (subst (λ (x : ℕ). Related relation x b) k (s .1))) g
+
+  pub stray-none : 128 ≤ v → (w : ℕ) → ¬ Stray body relation u w
+  stray-none l w s = C .below w (omega (arith, s .0)) (omega (arith, related-column relation u w (s .1))) (s .1)
+
+pub stray-passed : {body relation : List ℕ} → ((u v : ℕ) → ¬ Stray body relation u v) → StrayAnswer body relation Passed
+stray-passed h = record { passed = λ q. h; refused = λ p q. absurd (passed-refused refl q) }
+
+module _ {expression body relation : List ℕ} {u : ℕ} where
+  -- a pair
+  pub pair-passed : {v : ℕ} → (Related relation u v → Passes expression body relation u v) → PairAnswer expression body relation u v Passed
+  pair-passed h = record { passed = λ q. h; refused = λ p q. absurd (passed-refused refl q) }
+
+  pub pair-refused : {v : ℕ} {p : Place} → Related relation u v → Fails expression body relation u v (Refused p) → PairAnswer expression body relation u v (Refused p)
+  pair-refused r f = record { passed = λ q. absurd (passed-refused q refl); refused = λ p q. (r, f) }
+
+  -- a row stops at a pair that is refused
+  pub row-stop : {v : ℕ} {s : Stage} {p : Place} → s ≡ Refused p → PairAnswer expression body relation u v s → ((w : ℕ) → w < v → Related relation u w → Passes expression body relation u w) → RowAnswer expression body relation u s
+  row-stop {v} {s} {p} e a h = let (r, f) = a .refused p e in record { passed = λ q. absurd (passed-refused q e); refused = λ z q. (v, r, h, f) }
+
+  pub row-passed : ((v : ℕ) → Related relation u v → Passes expression body relation u v) → RowAnswer expression body relation u Passed
+  row-passed h = record { passed = λ q. h; refused = λ p q. absurd (passed-refused refl q) }
+
+  -- the search through the rows stops at a row that is refused
+  pub rows-stop : {s : Stage} {p : Place} → s ≡ Refused p → RowAnswer expression body relation u s → Related relation (startOf expression) (startOf body) → ((a : ℕ) → a < u → (w : ℕ) → Related relation a w → Passes expression body relation a w) → CheckedAnswer expression body relation s
+  rows-stop {s} {p} e a z h = let (v, r, g, (o, f, q)) = a .refused p e in (o, fails-pair z r (earlier v g) f, q)
+    where
+      earlier : (v : ℕ) → ((w : ℕ) → w < v → Related relation u w → Passes expression body relation u w) → (x y : ℕ) → Earlier x y u v → Related relation x y → Passes expression body relation x y
+      earlier v g x y (inl m) t = h x m y t
+      earlier v g x y (inr (m, n)) t = subst (λ (i : ℕ). Passes expression body relation i y) (sym m) (g y n (subst (λ (i : ℕ). Related relation i y) m t))

@@ -1,0 +1,196 @@
+-- The answer of 40 to 45: there is only one, the tests give it, it passes exactly for a bisimulation, and each place is the first.
+use mathlib.Core.Path.{_≡_, refl, ap, subst}
+use mathlib.Core.Logic.{_≢_, _⊎_, inl, inr, _↔_}
+use mathlib.Core.Bool.{Bool, true, false, cond}
+use mathlib.Core.List.{List, List·Memᴰ}
+use Prim.Native.Nat.{ℕ, _*_, _≤_, _<_}
+use native.Mathlib.Omega.{arith}
+use lib.Dec.{eqb, ltb}
+use lib.ListN.{length}
+use borrow.Author.Tests.{ltb-true, ltb-false}
+use Rattle.theory.specs.Least.{Earlier, FirstPair}
+use Rattle.theory.specs.Tests.{Decides, firstRow, lowest}
+use Rattle.theory.specs.Systems.{System, Bisimulation}
+use Rattle.theory.specs.Transitions.{chart}
+use Rattle.theory.specs.Relations.{indexed, RelationOutcome, PairFails, fails-43, fails-44, fails-45, RelationChecked, all-pass, fails-42, fails-pair}
+use Rattle.theory.proofs.Search.{same-or-earlier}
+use Rattle.theory.proofs.Tests.{not-so, decides-and, decides-eqb, decides-leb, first-pair}
+use Rattle.theory.proofs.Relations.{one-relation-outcome, related-iff-bisimulation, relation-checked}
+use Rattle.report.specs.declared.Place.the-variants.{File, Record, RecordKind, FileOffset, NodesLength, Node, NodeUses, ChartHeader, Transition, LabelsLength, Unreached, BranchCycle, LoopNoReturn, LoopEndInside, LoopNotLower, RelationLength, PairNoVertex, PairStarts, PairEnds, PairExpressionStep, PairChartStep, OutputLength}
+use Rattle.report.specs.declared.Stage.{Stage}
+use Rattle.report.specs.declared.Stage.the-variants.{Passed, Refused}
+use Rattle.chart.specs.Bodies.{verticesOf, startOf}
+use Rattle.chart.specs.Steps.{transitionsOf}
+use Rattle.chart.proofs.Relations.{acts-member}
+use Rattle.bisimulation.specs.Relations.{indexedOf, relatedTest, strayTest, answered, outcomeOf, relationOf}
+use Rattle.bisimulation.specs.Answers.{Related, Stray, StrayAnswer, Fits}
+use Rattle.bisimulation.specs.Meaning.{Comes, Says}
+use Rattle.bisimulation.proofs.Rows.{related-column, related-row}
+
+-- the answer of 40 to 45, with its place
+pub data Answers (e b relation : List ℕ) : Stage → Type 0 where
+  fails-40 : length relation ≢ 16 * verticesOf e → Answers e b relation (Refused (RelationLength (length relation)))
+  fails-41 : {u v : ℕ} → length relation ≡ 16 * verticesOf e → FirstPair (Stray b relation) u v → Answers e b relation (Refused (PairNoVertex u v))
+  fitting : {o : RelationOutcome} → Fits e b relation → RelationChecked (indexedOf e) (indexedOf b) (Related relation) o → Answers e b relation (answered e b o)
+
+-- THERE IS ONLY ONE ANSWER
+one-first : {P : ℕ → ℕ → Type 0} {u v a c : ℕ} → FirstPair P u v → FirstPair P a c → (u ≡ a) × (v ≡ c)
+one-first {P} {u} {v} {a} {c} f g = go (same-or-earlier u v a c)
+  where
+    go : ((u ≡ a) × (v ≡ c)) ⊎ (Earlier u v a c ⊎ Earlier a c u v) → (u ≡ a) × (v ≡ c)
+    go (inl h) = h
+    go (inr (inl h)) = absurd (g .earlier u v h (f .holds))
+    go (inr (inr h)) = absurd (f .earlier a c h (g .holds))
+
+module _ {e b relation : List ℕ} where
+  stray-fits : {u v : ℕ} → FirstPair (Stray b relation) u v → ¬ Fits e b relation
+  stray-fits {u} {v} f F = let (l, r) = f .holds in omega (arith, F .inside u v r .1)
+
+  pub one-answer : {s t : Stage} → Answers e b relation s → Answers e b relation t → s ≡ t
+  one-answer (fails-40 h) (fails-40 g) = refl
+  one-answer (fails-40 h) (fails-41 w f) = absurd (h w)
+  one-answer (fails-40 h) (fitting F c) = absurd (h (F .whole))
+  one-answer (fails-41 w f) (fails-40 g) = absurd (g w)
+  one-answer (fails-41 w f) (fails-41 z g) = let (p, q) = one-first f g in rw (p, q)
+  one-answer (fails-41 w f) (fitting F c) = absurd (stray-fits f F)
+  one-answer (fitting F c) (fails-40 g) = absurd (g (F .whole))
+  one-answer (fitting F c) (fails-41 z g) = absurd (stray-fits g F)
+  one-answer (fitting F c) (fitting G d) = ap (answered e b) (one-relation-outcome c d)
+
+-- where no bit is stray, each stands for a pair of vertices
+pub fits-of : {e b relation : List ℕ} → length relation ≡ 16 * verticesOf e → ((u v : ℕ) → ¬ Stray b relation u v) → Fits e b relation
+fits-of {e} {b} {relation} w h = record { whole = w; inside = λ u v r. (related-row relation (verticesOf e) u v w r, low u v r) }
+  where
+    low : (u v : ℕ) → Related relation u v → v < verticesOf b
+    low u v r = go (ltb v (verticesOf b)) refl
+      where
+        go : (x : Bool) → ltb v (verticesOf b) ≡ x → v < verticesOf b
+        go true e = ltb-true v (verticesOf b) e
+        go false e = absurd (h u v (ltb-false v (verticesOf b) e, r))
+
+-- what `check` knows once 41 passes
+pub fits-after : {e b relation : List ℕ} {n : ℕ} {s : Stage} → n ≡ verticesOf e → length relation ≡ 16 * n → StrayAnswer b relation s → s ≡ Passed → Fits e b relation
+fits-after {e} {b} h w a q = fits-of {e = e} (rw h at w) (a .passed q)
+
+-- THE TESTS GIVE IT
+decides-stray : (b relation : List ℕ) (u v : ℕ) → Decides (strayTest b relation u v) (Stray b relation u v)
+unfolding strayTest
+decides-stray b relation u v = decides-and (decides-leb (verticesOf b) v) ((λ r. r), (λ r. r))
+
+module _ (e b relation : List ℕ) where
+  outcome-checked : Fits e b relation → RelationChecked (indexedOf e) (indexedOf b) (Related relation) (outcomeOf e b relation)
+  unfolding outcomeOf
+  outcome-checked F = relation-checked (indexedOf e) (indexedOf b) {t = relatedTest relation} {R = Related relation} (λ u v. ((λ r. r), (λ r. r))) (verticesOf e) (verticesOf b) (F .inside)
+
+  pub relation-answers : Answers e b relation (relationOf e b relation)
+  unfolding relationOf
+  relation-answers = go (eqb (length relation) (16 * verticesOf e)) (ltb u (verticesOf e)) (decides-eqb (length relation) (16 * verticesOf e)) refl
+    where
+      u : ℕ
+      u = firstRow (strayTest b relation) (verticesOf e) 128
+
+      v : ℕ
+      v = lowest (strayTest b relation u) 0 128
+
+      found : length relation ≡ 16 * verticesOf e → (u < verticesOf e → FirstPair (Stray b relation) u v) × (verticesOf e ≤ u → (a c : ℕ) → ¬ Stray b relation a c)
+      found w = first-pair (decides-stray b relation) (verticesOf e) 128 (λ a c s. (related-row relation (verticesOf e) a c w (s .1), related-column relation a c (s .1)))
+
+      go : (x y : Bool) → Decides x (length relation ≡ 16 * verticesOf e) → ltb u (verticesOf e) ≡ y → Answers e b relation (cond x (cond y (Refused (PairNoVertex u v)) (answered e b (outcomeOf e b relation))) (Refused (RelationLength (length relation))))
+      go false y d h = fails-40 (not-so d refl)
+      go true true d h = fails-41 (d .0 refl) (found (d .0 refl) .0 (ltb-true u (verticesOf e) h))
+      go true false d h =
+          let F = fits-of (d .0 refl) (found (d .0 refl) .1 (ltb-false u (verticesOf e) h)) in
+          fitting F (outcome-checked F)
+
+pub relation-of : {e b relation : List ℕ} {s : Stage} → Answers e b relation s → s ≡ relationOf e b relation
+relation-of {e} {b} {relation} a = one-answer a (relation-answers e b relation)
+
+-- WHAT IT SAYS
+-- a system over vertices, whose steps may be given in two ways
+abbrev vertexSystem : ℕ → (ℕ → ℕ → ℕ → Type 0) → System
+vertexSystem start S = record { State = ℕ; start = start; End = λ v. v ≡ 0; Step = S }
+
+module _ {S S′ T T′ : ℕ → ℕ → ℕ → Type 0} (s : (u a w : ℕ) → S u a w ↔ S′ u a w) (t : (u a w : ℕ) → T u a w ↔ T′ u a w) where
+  same-steps : (x y : ℕ) (R : ℕ → ℕ → Type 0) → Bisimulation (vertexSystem x S) (vertexSystem y T) R → Bisimulation (vertexSystem x S′) (vertexSystem y T′) R
+  same-steps x y R B = record {
+    starts = B .starts;
+    ends = B .ends;
+    forth = λ u v r a u′ z. let (v′, k, q) = B .forth u v r a u′ (s u a u′ .1 z) in (v′, t v a v′ .0 k, q);
+    back = λ u v r a v′ z. let (u′, k, q) = B .back u v r a v′ (t v a v′ .1 z) in (u′, s u a u′ .0 k, q);
+  }
+
+-- a body's transitions by their index, and as a list
+indexed-member : (b : List ℕ) (u a w : ℕ) → indexed (indexedOf b) .Step u a w ↔ List·Memᴰ (u, a, w) (transitionsOf b)
+indexed-member b u a w = (
+  (λ (i, h, f, g, k). acts-member b u a w .0 (record { at = i; within = h; leaves = f; acts = g; enters = k })),
+  (λ m. let z = acts-member b u a w .1 m in (z .at, z .within, z .leaves, z .acts, z .enters)),
+)
+
+back-again : {A B : Type 0} → A ↔ B → B ↔ A
+back-again (f, g) = (g, f)
+
+pub indexed-chart : (e b : List ℕ) (R : ℕ → ℕ → Type 0) → Bisimulation (indexed (indexedOf e)) (indexed (indexedOf b)) R ↔ Bisimulation (chart (startOf e) (transitionsOf e)) (chart (startOf b) (transitionsOf b)) R
+indexed-chart e b R = (
+  same-steps (indexed-member e) (indexed-member b) (startOf e) (startOf b) R,
+  same-steps (λ u a w. back-again (indexed-member e u a w)) (λ u a w. back-again (indexed-member b u a w)) (startOf e) (startOf b) R,
+)
+
+module _ (e b relation : List ℕ) where
+  pair-says : {u v : ℕ} {o : RelationOutcome} → Comes e b relation u v → PairFails (indexedOf e) (indexedOf b) (Related relation) u v o → Says e b relation (answered e b o)
+  unfolding Says
+  pair-says c (fails-43 h) = (c, h)
+  pair-says c (fails-44 h l) = (c, h, l)
+  pair-says c (fails-45 h a l) = (c, h, a, l)
+
+  checked-says : {o : RelationOutcome} → Fits e b relation → RelationChecked (indexedOf e) (indexedOf b) (Related relation) o → Says e b relation (answered e b o)
+  unfolding Says
+  checked-says F (all-pass s p) = (F .whole, F .inside, indexed-chart e b (Related relation) .0 (related-iff-bisimulation .0 (all-pass s p)))
+  checked-says F (fails-42 h) = (F, refl, refl, h)
+  checked-says F (fails-pair s r g f) = pair-says (record { fits = F; starts = s; related = r; earlier = g }) f
+
+  answers-say : {s : Stage} → Answers e b relation s → Says e b relation s
+  unfolding Says
+  answers-say (fails-40 h) = (refl, h)
+  answers-say (fails-41 w f) = (w, f)
+  answers-say (fitting F c) = checked-says F c
+
+  says-pair : {u v : ℕ} {o : RelationOutcome} → Comes e b relation u v → PairFails (indexedOf e) (indexedOf b) (Related relation) u v o → Answers e b relation (answered e b o)
+  says-pair c f = fitting (c .fits) (fails-pair (c .starts) (c .related) (c .earlier) f)
+
+  says-answer : (s : Stage) → Says e b relation s → Answers e b relation s
+  unfolding Says
+  says-answer Passed (w, i, B) = fitting (record { whole = w; inside = i }) (related-iff-bisimulation .1 (indexed-chart e b (Related relation) .1 B))
+  says-answer (Refused (RelationLength p)) (q, h) = rw q (fails-40 h)
+  says-answer (Refused (PairNoVertex p q)) (w, f) = fails-41 w f
+  says-answer (Refused (PairStarts p q)) (F, g, k, h) = rw (g, k) (fitting F (fails-42 h))
+  says-answer (Refused (PairEnds p q)) (c, h) = says-pair c (fails-43 h)
+  says-answer (Refused (PairExpressionStep p q r)) (c, h, l) = says-pair c (fails-44 h l)
+  says-answer (Refused (PairChartStep p q r)) (c, h, a, l) = says-pair c (fails-45 h a l)
+  says-answer (Refused File) h = absurd h
+  says-answer (Refused (Record p)) h = absurd h
+  says-answer (Refused (RecordKind p q)) h = absurd h
+  says-answer (Refused (FileOffset p)) h = absurd h
+  says-answer (Refused (NodesLength p)) h = absurd h
+  says-answer (Refused (Node p)) h = absurd h
+  says-answer (Refused (NodeUses p q)) h = absurd h
+  says-answer (Refused ChartHeader) h = absurd h
+  says-answer (Refused (Transition p)) h = absurd h
+  says-answer (Refused (LabelsLength p)) h = absurd h
+  says-answer (Refused (Unreached p)) h = absurd h
+  says-answer (Refused (BranchCycle p)) h = absurd h
+  says-answer (Refused (LoopNoReturn p q)) h = absurd h
+  says-answer (Refused (LoopEndInside p q)) h = absurd h
+  says-answer (Refused (LoopNotLower p q r)) h = absurd h
+  says-answer (Refused (OutputLength p)) h = absurd h
+
+  -- each answer, with its place, stands exactly where what it says holds
+  pub relation-says : (s : Stage) → (relationOf e b relation ≡ s) ↔ Says e b relation s
+  relation-says s = (
+    (λ q. subst (Says e b relation) q (answers-say (relation-answers e b relation))),
+    (λ h. one-answer (relation-answers e b relation) (says-answer s h)),
+  )
+
+  -- NOTHING FAILS EXACTLY FOR A BISIMULATION OF THE TWO CHARTS
+  pub relation-iff-bisimulation : (relationOf e b relation ≡ Passed) ↔ ((length relation ≡ 16 * verticesOf e) × ((u v : ℕ) → relatedTest relation u v ≡ true → (u < verticesOf e) × (v < verticesOf b)) × Bisimulation (chart (startOf e) (transitionsOf e)) (chart (startOf b) (transitionsOf b)) (λ u v. relatedTest relation u v ≡ true))
+  unfolding Says
+  relation-iff-bisimulation = relation-says Passed

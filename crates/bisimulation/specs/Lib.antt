@@ -1,0 +1,4 @@
+-- The definitions: the tests, the contracts of the searches, and what each answer says.
+pub mod Relations
+pub mod Answers
+pub mod Meaning

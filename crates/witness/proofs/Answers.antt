@@ -1,0 +1,42 @@
+-- What the code's parts say is the answer: 31, then 32, then the loops.
+use mathlib.Core.Path.{_≡_, sym, _∙_, ap}
+use mathlib.Core.List.{List}
+use Prim.Native.Nat.{ℕ, _≤_, _<_}
+use native.Mathlib.Omega.{arith}
+use lib.ListN.{length}
+use Rattle.theory.specs.Witnesses.{Connected}
+use Rattle.theory.specs.Least.{Least}
+use Rattle.theory.specs.Checks.{Unreached, OnBranchCycle, all-pass, fails-31, fails-32, fails-loop}
+use Rattle.theory.proofs.Paths.{plus-below}
+use Rattle.report.specs.declared.Place.the-variants as place
+use Rattle.bits.specs.Bits.{Bytes}
+use Rattle.chart.specs.Bodies.{verticesOf, startOf, countOf, WellFormed}
+use Rattle.chart.specs.Steps.{StepsOf}
+use Rattle.chart.proofs.Relations.{steps-formed}
+use Rattle.witness.specs.declared.Labelled.{Labelled}
+use Rattle.witness.specs.declared.Labelled.the-variants.{Passed, Refused}
+use Rattle.witness.specs.Labellings.{loopsOf, labelledOf}
+use Rattle.witness.specs.Marks.{Lowest}
+use Rattle.witness.specs.Answers.{LoopsSaid}
+use Rattle.witness.proofs.Labellings.{all-reached, labelled-checked}
+
+least : {P : ℕ → Type 0} {n r : ℕ} → Lowest P n r → r < n → Least P r
+least L h = record { holds = L .holds h; lowest = L .below }
+
+module _ (b labels : List ℕ) (W : WellFormed b) (B : Bytes labels) (long : length labels ≡ countOf b) {p : ℕ} (U : Lowest (Unreached (verticesOf b) (StepsOf b labels) (startOf b)) (verticesOf b) p) where
+  pub answer-31 : p < verticesOf b → labelledOf b labels ≡ Refused (place.Unreached p)
+  answer-31 h = labelled-checked b labels W B long (fails-31 (least U h))
+
+  module _ (all : verticesOf b ≤ p) {q : ℕ} (C : Lowest (OnBranchCycle (StepsOf b labels)) (verticesOf b) q) where
+    reached : Connected (verticesOf b) (StepsOf b labels) (startOf b)
+    reached = all-reached b labels W B (λ w h. U .below w (omega arith))
+
+    pub answer-32 : q < verticesOf b → labelledOf b labels ≡ Refused (place.BranchCycle q)
+    answer-32 h = labelled-checked b labels W B long (fails-32 reached (least C h))
+
+    acyclic : verticesOf b ≤ q → (w : ℕ) → ¬ OnBranchCycle (StepsOf b labels) w
+    acyclic h w c = let l : w < verticesOf b = plus-below (λ u x. steps-formed b labels W .to-vertex u 0 x) c in C .below w (omega arith) c
+
+    pub answer-loops : verticesOf b ≤ q → (r : Labelled) → LoopsSaid (StepsOf b labels) (loopsOf b labels) r → r ≡ labelledOf b labels
+    answer-loops h (Passed n) (e, a) = ap Passed e ∙ sym (labelled-checked b labels W B long (all-pass reached (record { c32 = acyclic h; loops = a })))
+    answer-loops h (Refused x) (v, l, o, e, (out, f, i)) = sym (labelled-checked b labels W B long (fails-loop reached (acyclic h) o e f) ∙ i (loopsOf b labels))

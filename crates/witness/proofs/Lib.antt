@@ -1,0 +1,7 @@
+-- The laws: the theorems over bytes, then what the code's parts do.
+pub mod Counting
+pub mod Labellings
+pub mod Marking
+pub mod Reaching
+pub mod Loops
+pub mod Answers

@@ -1,0 +1,7 @@
+-- The definitions: the tests, then the contracts of the code's parts.
+pub mod Labellings
+pub mod Meanings
+pub mod Given
+pub mod Marks
+pub mod Answers
+pub mod Loops
