@@ -1,0 +1,3 @@
+-- The laws.
+pub mod Files
+pub mod Stages

@@ -1,0 +1,122 @@
+-- The stages of the check, as the code goes through them.
+use mathlib.Core.Path.{_≡_, refl, sym, _∙_, ap, ap₂}
+use mathlib.Core.Bool.{Bool, true, false, cond}
+use mathlib.Core.List.{List, _++_}
+use Prim.Native.Nat.{ℕ, zero, suc, _+_, _*_, _≤_, _<_}
+use native.Mathlib.Omega.{arith}
+use lib.Dec.{ltb}
+use lib.ListN.{length, getD, take, drop, length-append, length-drop, List·getD-append}
+use lib.Seq.{take-append-seam}
+use borrow.Author.Tests.{le-ltb}
+use Rattle.report.specs.declared.Place.{Place}
+use Rattle.report.specs.declared.Stage.{Stage}
+use Rattle.report.specs.declared.Stage.the-variants as stage
+use Rattle.report.specs.declared.Verdict.{Verdict}
+use Rattle.report.specs.declared.Verdict.the-variants.{Accepted, Refused}
+use Rattle.chart.specs.Bodies.{verticesOf, countOf}
+use Rattle.chart.specs.Checks as chart
+use Rattle.chart.proofs.Checks.{well-formed}
+use Rattle.expression.specs.Table as expression
+use Rattle.expression.specs.Body.{bodyOf, chartOf, bufferOf, writtenOf}
+use Rattle.expression.proofs.Table.{passed→well-formed}
+use Rattle.expression.proofs.Bodies.{body-long, chart-few}
+use Rattle.expression.proofs.Chart.{body-count}
+use Rattle.witness.specs.declared.Labelled.the-variants as labelled
+use Rattle.witness.specs.Labellings.{labelledOf}
+use Rattle.bisimulation.specs.Relations.{relationOf}
+use Rattle.verdict.specs.Files.{andThen, recordsOf, bodyAt}
+use Rattle.verdict.specs.Verdicts.{nodesIn, chartIn, labelsIn, relationIn, bodiesOf, counted, labellingOf, unless, loopsOf, after, verdictOf}
+use Rattle.verdict.proofs.Files.{both-passed}
+
+-- 1 TO 21
+module _ (f : List ℕ) where
+  pub bodies-records : (s : Stage) (p : Place) → s ≡ recordsOf f → s ≡ stage.Refused p → s ≡ bodiesOf f
+  unfolding bodiesOf
+  bodies-records s p e r = r ∙ rw (← e, r)
+
+  module _ (passed : recordsOf f ≡ stage.Passed) where
+    pub bodies-nodes : (x : List ℕ) → x ≡ nodesIn f → (s : Stage) (p : Place) → s ≡ expression.checkOf x → s ≡ stage.Refused p → s ≡ bodiesOf f
+    unfolding bodiesOf
+    bodies-nodes x q s p e r = r ∙ rw (passed, ← q, ← e, r)
+
+    pub bodies-chart : (x y : List ℕ) → x ≡ nodesIn f → expression.checkOf x ≡ stage.Passed → y ≡ chartIn f → (s : Stage) → s ≡ chart.checkOf y → s ≡ bodiesOf f
+    unfolding bodiesOf
+    bodies-chart x y q g z s e = e ∙ rw (passed, ← q, g, z)
+
+  pub bodies-passed : bodiesOf f ≡ stage.Passed → (recordsOf f ≡ stage.Passed) × (expression.checkOf (nodesIn f) ≡ stage.Passed) × (chart.checkOf (chartIn f) ≡ stage.Passed)
+  unfolding bodiesOf
+  bodies-passed e =
+      let (a, r) = both-passed (recordsOf f) (andThen (expression.checkOf (nodesIn f)) (chart.checkOf (chartIn f))) e in
+      let (b, c) = both-passed (expression.checkOf (nodesIn f)) (chart.checkOf (chartIn f)) r in
+      (a, b, c)
+
+  -- 30 TO 35
+  module _ (b l : List ℕ) (q : b ≡ chartIn f) (z : l ≡ labelsIn f) where
+    pub labelling-passed : (v t loops : ℕ) → v ≡ verticesOf b → t ≡ countOf b → labelledOf b l ≡ labelled.Passed loops → Accepted v t loops ≡ labellingOf f
+    unfolding labellingOf
+    labelling-passed v t loops i j e = rw (i, j, ← q, ← z, e)
+
+    pub labelling-refused : (p : Place) → labelledOf b l ≡ labelled.Refused p → Refused p ≡ labellingOf f
+    unfolding labellingOf
+    labelling-refused p e = rw (← q, ← z, e)
+
+  -- 40 TO 45
+  module _ (x : Verdict) (is : x ≡ labellingOf f) where
+    pub loops-refused : (p : Place) → x ≡ Refused p → x ≡ loopsOf f
+    unfolding loopsOf
+    loops-refused p e = e ∙ rw (← is, e)
+
+    module _ (n b r : List ℕ) (i : n ≡ nodesIn f) (j : b ≡ chartIn f) (k : r ≡ relationIn f) {v t loops : ℕ} (e : x ≡ Accepted v t loops) where
+      pub loops-passed : relationOf (bodyOf n) b r ≡ stage.Passed → x ≡ loopsOf f
+      unfolding loopsOf
+      loops-passed g = e ∙ rw (← is, e, ← i, ← j, ← k, g)
+
+      pub loops-apart : (p : Place) → relationOf (bodyOf n) b r ≡ stage.Refused p → Refused p ≡ loopsOf f
+      unfolding loopsOf
+      loops-apart p g = rw (← is, e, ← i, ← j, ← k, g)
+
+  -- THE VERDICT
+  pub verdict-bodies : (s : Stage) (p : Place) → s ≡ bodiesOf f → s ≡ stage.Refused p → Refused p ≡ verdictOf f
+  unfolding verdictOf
+  verdict-bodies s p e r = rw (← e, r)
+
+  pub verdict-loops : bodiesOf f ≡ stage.Passed → (x : Verdict) → x ≡ loopsOf f → x ≡ verdictOf f
+  unfolding verdictOf
+  verdict-loops e x g = g ∙ rw e
+
+-- the expression's chart in bytes that are long enough for every one
+module _ (s lent : List ℕ) (passed : expression.checkOf s ≡ stage.Passed) (long : length lent ≡ 32772) where
+  fits : length (bodyOf s) ≤ length lent
+  fits = let a = chart-few s (passed→well-formed s passed) in let b = body-long s in omega arith
+
+  pub written-body : bufferOf s lent ≡ bodyOf s ++ drop (length (bodyOf s)) lent
+  unfolding bufferOf writtenOf
+  written-body = rw (passed, le-ltb (length lent) (length (bodyOf s)) fits)
+
+  module _ (out : List ℕ) (e : out ≡ bufferOf s lent) where
+    count-in : countOf out ≡ countOf (bodyOf s)
+    count-in =
+        let b = body-long s in
+        rw (e, written-body)
+        (ap₂ (λ (x y : ℕ). x + 256 * y) (List·getD-append (bodyOf s) (drop (length (bodyOf s)) lent) 0 2 (omega arith)) (List·getD-append (bodyOf s) (drop (length (bodyOf s)) lent) 0 3 (omega arith)))
+
+    pub part-end : 4 + 4 * countOf out ≡ length (bodyOf s)
+    part-end = let a = count-in in let b = body-count s in let c = body-long s in omega arith
+
+    pub part-within : length (bodyOf s) ≤ length out
+    part-within = rw (e, written-body, length-append (bodyOf s) (drop (length (bodyOf s)) lent)) (omega arith)
+
+    seam : take (length (bodyOf s)) out ≡ bodyOf s
+    seam = rw (e, written-body) (take-append-seam (bodyOf s) (drop (length (bodyOf s)) lent))
+
+    pub part-body : (n : ℕ) → n ≡ countOf out → take (4 + 4 * n) out ≡ bodyOf s
+    part-body n q = let z : 4 + 4 * n ≡ length (bodyOf s) = omega (arith, part-end) in ap (λ (k : ℕ). take k out) z ∙ seam
+
+    pub part-room : (n : ℕ) → n ≡ countOf out → 4 + 4 * n ≤ length out
+    part-room n q = omega (arith, part-end, part-within)
+
+    pub part-long : (n : ℕ) → n ≡ countOf out → 4 + 4 * n ≡ length (take (4 + 4 * n) out)
+    part-long n q = omega (arith, ap length (part-body n q), part-end)
+
+pub chart-long : (b : List ℕ) → chart.checkOf b ≡ stage.Passed → 4 ≤ length b
+chart-long b e = well-formed b e .header .long

@@ -1,0 +1,52 @@
+use mathlib.Core.Path.{_≡_, sym, _∙_}
+use Prim.Native.Nat.{ℕ, _+_, _≤_, _<_}
+use native.Mathlib.Omega.{arith}
+use Rattle.verdict.proofs.Files.{record-cut, record-other, record-short, record-passes}
+use borrow.Author.Needs.{needs}
+use Rattle.verdict.proofs.record.Statement.{statement}
+use Rattle.verdict.proofs.record.Tie as tie
+
+sub-if1 : tie.Need-sub-if1
+sub-if1 c = search needs
+
+returns : tie.Need-returns
+returns c = record-cut _ _ _ (omega arith)
+
+add-pair : tie.Need-add-pair
+add-pair c = search needs
+
+pair-requires : tie.Need-pair-requires
+pair-requires c κs = search needs
+
+returns-2 : tie.Need-returns-2
+returns-2 c = record-other _ _ _ (omega arith) _ (c .before .pair .ensures .0) (c .if2 .taken)
+
+sub-if3 : tie.Need-sub-if3
+sub-if3 c = search needs
+
+sub-if3-2 : tie.Need-sub-if3-2
+sub-if3-2 c = search needs
+
+pair-requires-2 : tie.Need-pair-requires-2
+pair-requires-2 c κs = search needs
+
+returns-3 : tie.Need-returns-3
+returns-3 c = record-short _ _ _ (omega arith) (sym (c .before .before .if2 .left) ∙ c .before .before .before .pair .ensures .0) (omega (arith, c .before .pair2 .ensures))
+
+returns-4 : tie.Need-returns-4
+returns-4 c = record-passes _ _ _ (omega arith) (sym (c .before .before .if2 .left) ∙ c .before .before .before .pair .ensures .0) (omega (arith, c .before .pair2 .ensures))
+
+pub record-spec : {M : Type 1} → statement M
+record-spec =
+    tie.close
+    (tie.spec
+    sub-if1
+    returns
+    add-pair
+    pair-requires
+    returns-2
+    sub-if3
+    sub-if3-2
+    pair-requires-2
+    returns-3
+    returns-4)

@@ -1,0 +1,69 @@
+-- The yard file (document 01): four records of kinds 1 to 4, nothing after; and the refusals 1 to 4 as a test that runs.
+use mathlib.Core.Bool.{cond}
+use mathlib.Core.List.{List, [], _∷_, _++_}
+use mathlib.Core.Path.{_≡_}
+use Prim.Native.Nat.{ℕ, zero, suc, _+_, _*_, _/_, _%_, _<_, _≤_}
+use lib.Dec.{eqb, ltb}
+use lib.ListN.{length, getD, take, drop}
+use Rattle.report.specs.declared.Place.the-variants.{File, Record, RecordKind, FileOffset}
+use Rattle.report.specs.declared.Stage.{Stage}
+use Rattle.report.specs.declared.Stage.the-variants.{Passed, Refused}
+
+-- one stage after another: a stage that refuses stops the check there
+abbrev pub andThen : Stage → Stage → Stage
+andThen Passed next = next
+andThen (Refused place) next = Refused place
+
+-- THE MEANING. A number in two bytes, the low one first; a record: the length of its body, its kind, its body
+abbrev pub twoBytes : ℕ → List ℕ
+twoBytes n = n % 256 ∷ n / 256 ∷ []
+
+abbrev pub recordOf : ℕ → List ℕ → List ℕ
+recordOf kind body = twoBytes (length body) ++ (twoBytes kind ++ body)
+
+-- the file that holds these four bodies
+abbrev pub fileOf : List ℕ → List ℕ → List ℕ → List ℕ → List ℕ
+fileOf a b c d = recordOf 1 a ++ (recordOf 2 b ++ (recordOf 3 c ++ recordOf 4 d))
+
+-- THE TESTS. The number at an offset; the offset after the record at an offset
+abbrev pub pairAt : List ℕ → ℕ → ℕ
+pairAt f at = getD f at 0 + 256 * getD f (at + 1) 0
+
+abbrev pub endAt : List ℕ → ℕ → ℕ
+endAt f at = at + 4 + pairAt f at
+
+-- 2 and 3 of the record of this kind at an offset: header, kind, body
+unfoldable pub recordStage : List ℕ → ℕ → ℕ → Stage
+recordStage f kind at =
+    cond (ltb (length f) (at + 4)) (Refused (Record kind))
+    (cond (eqb (pairAt f (at + 2)) kind)
+    (cond (ltb (length f) (endAt f at)) (Refused (Record kind)) Passed)
+    (Refused (RecordKind kind (pairAt f (at + 2)))))
+
+-- the n records from an offset on, then 4
+unfoldable pub recordsFrom : List ℕ → ℕ → ℕ → ℕ → Stage
+recordsFrom f kind at zero = cond (ltb at (length f)) (Refused (FileOffset at)) Passed
+recordsFrom f kind at (suc n) = andThen (recordStage f kind at) (recordsFrom f (suc kind) (endAt f at) n)
+
+unfoldable pub recordsOf : List ℕ → Stage
+recordsOf f = cond (ltb 43536 (length f)) (Refused File) (recordsFrom f 1 0 4)
+
+-- where record k begins, from 0, and its body
+unfoldable pub offsetOf : List ℕ → ℕ → ℕ
+offsetOf f zero = 0
+offsetOf f (suc k) = endAt f (offsetOf f k)
+
+unfoldable pub bodyAt : List ℕ → ℕ → List ℕ
+bodyAt f k = take (pairAt f (offsetOf f k)) (drop (offsetOf f k + 4) f)
+
+-- what the refusals 2 and 3 ask of a record at an offset
+pub record Fits (f : List ℕ) (kind at : ℕ) : Type 0 where
+  pub header : at + 4 ≤ length f
+  pub is-kind : pairAt f (at + 2) ≡ kind
+  pub body : endAt f at ≤ length f
+
+-- a file of four records of kinds 1 to 4, nothing after
+pub record Whole (f : List ℕ) : Type 0 where
+  pub short : length f ≤ 43536
+  pub each : (k : ℕ) → k < 4 → Fits f (suc k) (offsetOf f k)
+  pub nothing-after : offsetOf f 4 ≡ length f

@@ -1,0 +1,161 @@
+// Yard files: the four records [1-4], and the whole check.
+ghost use mathlib.Core.Path.{_≡_};
+ghost use Prim.Native.Nat.{_+_, _≤_, _<_};
+ghost use lib.ListN.{length};
+ghost use Rattle.chart.specs.Checks as chart·checks;
+ghost use Rattle.expression.specs.Table as expression·table;
+ghost use Rattle.expression.specs.Body.{bodyOf};
+ghost use Rattle.bisimulation.specs.Relations.{relationOf};
+ghost use Rattle.verdict.specs.Files.{pairAt, recordStage, recordsOf, offsetOf, bodyAt};
+ghost use Rattle.verdict.specs.Verdicts.{bodiesOf, labellingOf, loopsOf, verdictOf};
+use bits::byte;
+use report::Place;
+use report::Stage;
+use report::Verdict;
+use witness::Labelled;
+
+// A number of two bytes, the low one first.
+fn pair(file: &[u8], at: usize) -> usize
+    requires { ⌜ at + 2 ≤ length (now file) ⌝ }
+    ensures { λ r. ⌜ (r ≡ pairAt (now (file .entry)) at) × (r < 65536) ⌝ }
+{
+    byte(file, at) + 256 * byte(file, at + 1)
+}
+
+// 2 and 3 of the record of this kind at an offset.
+fn record(file: &[u8], kind: usize, at: usize) -> Stage
+    requires { ⌜ at ≤ length (now file) ⌝ }
+    ensures { λ r. ⌜ r ≡ recordStage (now (file .entry)) kind at ⌝ }
+{
+    if file.len() - at < 4 {
+        return Stage::Refused(Place::Record(kind));
+    }
+    let found = pair(file, at + 2);
+    if found != kind {
+        return Stage::Refused(Place::RecordKind(kind, found));
+    }
+    if file.len() - at - 4 < pair(file, at) {
+        return Stage::Refused(Place::Record(kind));
+    }
+    Stage::Passed
+}
+
+// The refusals 1 to 4.
+fn records(file: &[u8]) -> Stage
+    ensures { λ r. ⌜ r ≡ recordsOf (now (file .entry)) ⌝ }
+{
+    if 43536 < file.len() {
+        return Stage::Refused(Place::File);
+    }
+    let mut at: usize = 0;
+    let mut kind: usize = 1;
+    while kind < 5 {
+        let stage = record(file, kind, at);
+        let Stage::Passed = stage else {
+            return stage;
+        };
+        at = at + 4 + pair(file, at);
+        kind += 1;
+    }
+    if at < file.len() {
+        return Stage::Refused(Place::FileOffset(at));
+    }
+    Stage::Passed
+}
+
+// Where record k begins, from 0.
+fn offset(file: &[u8], k: usize) -> usize
+    requires { ⌜ (recordsOf (now file) ≡ Stage.Passed) × (k < 4) ⌝ }
+    ensures { λ r. ⌜ r ≡ offsetOf (now (file .entry)) k ⌝ }
+{
+    let mut at: usize = 0;
+    let mut i: usize = 0;
+    while i < k {
+        at = at + 4 + pair(file, at);
+        i += 1;
+    }
+    at
+}
+
+// The body of record k, from 0, as a part of the file.
+fn body(file: &[u8], k: usize) -> &[u8]
+    requires { ⌜ (recordsOf (now file) ≡ Stage.Passed) × (k < 4) ⌝ }
+    ensures { λ r. ⌜ now r ≡ bodyAt (now (file .entry)) k ⌝ }
+{
+    let at = offset(file, k);
+    let start = at + 4;
+    let end = start + pair(file, at);
+    &file[start..end]
+}
+
+// The refusals 1 to 4, 10 to 12, 20 and 21: the records, the nodes, the chart.
+fn check_bodies(file: &[u8]) -> Stage
+    ensures { λ r. ⌜ r ≡ bodiesOf (now (file .entry)) ⌝ }
+{
+    let stage = records(file);
+    let Stage::Passed = stage else {
+        return stage;
+    };
+    let stage = expression::check(body(file, 0));
+    let Stage::Passed = stage else {
+        return stage;
+    };
+    chart::check(body(file, 1))
+}
+
+// The refusals 30 to 35, or V, T and the number of loops.
+fn check_labelling(file: &[u8]) -> Verdict
+    requires { ⌜ bodiesOf (now file) ≡ Stage.Passed ⌝ }
+    ensures { λ r. ⌜ r ≡ labellingOf (now (file .entry)) ⌝ }
+{
+    let chart = body(file, 1);
+    match witness::check(chart, body(file, 2)) {
+        Labelled::Passed(loops) => Verdict::Accepted(byte(chart, 0), chart::count(chart), loops),
+        Labelled::Refused(place) => Verdict::Refused(place),
+    }
+}
+
+// Room for the chart of every expression: 4 bytes, and 4 for each of at most 8,192 transitions.
+fn room() -> [u8; 32772]
+    ensures { λ r. ⌜ length r ≡ 32772 ⌝ }
+{
+    [0u8; 32772]
+}
+
+// The refusals 40 to 45, against the expression's chart.
+fn check_relation(nodes: &[u8], chart: &[u8], relation: &[u8]) -> Stage
+    requires { ⌜ (expression·table.checkOf (now nodes) ≡ Stage.Passed) × (chart·checks.checkOf (now chart) ≡ Stage.Passed) ⌝ }
+    ensures { λ r. ⌜ r ≡ relationOf (bodyOf (now (nodes .entry))) (now (chart .entry)) (now (relation .entry)) ⌝ }
+{
+    let mut out = room();
+    expression::write_chart(nodes, &mut out);
+    let end = 4 + 4 * chart::count(&out);
+    bisimulation::check(&out[..end], chart, relation)
+}
+
+// The refusals 30 to 45, or the counts.
+fn check_loops(file: &[u8]) -> Verdict
+    requires { ⌜ bodiesOf (now file) ≡ Stage.Passed ⌝ }
+    ensures { λ r. ⌜ r ≡ loopsOf (now (file .entry)) ⌝ }
+{
+    let verdict = check_labelling(file);
+    let Verdict::Accepted(_, _, _) = verdict else {
+        return verdict;
+    };
+    let stage = check_relation(body(file, 0), body(file, 1), body(file, 3));
+    let Stage::Refused(place) = stage else {
+        return verdict;
+    };
+    Verdict::Refused(place)
+}
+
+// The verdict on a yard file: accepted with its vertices, transitions and loops, or the first check that fails.
+pub fn check(file: &[u8]) -> Verdict
+    ensures { λ r. ⌜ r ≡ verdictOf (now (file .entry)) ⌝ }
+{
+    let stage = check_bodies(file);
+    let Stage::Refused(place) = stage else {
+        return check_loops(file);
+    };
+    Verdict::Refused(place)
+}
