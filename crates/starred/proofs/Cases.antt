@@ -6,10 +6,18 @@ use Rattle.theory.specs.Transitions.{precedes}
 use Rattle.theory.specs.Nodes.{downF, down, first, up, uses, riseF, rise, after}
 use Rattle.theory.specs.ExpressionCharts.{edges, collect, transitions}
 use Rattle.theory.specs.Tests as tests
-use Rattle.expression.specs.Table.{node, count, lowest, malformed, misused, checkOf}
+use Rattle.theory.specs.Reachability.{values, rounds, reaches}
+use Rattle.theory.specs.LabellingTests.{anyTest, loopTest, loopList, bodyTest, unreachedTest, cycleTest, notLowerTest, loopOutcome, failingTest, loopsOutcome, outcome}
+use Rattle.theory.specs.RelationTests.{matchedTest, unmatchedTest, pairOutcome, failingPair, relationOutcome}
+use Rattle.chart.specs.Checks as chart
+use Rattle.expression.specs.Table as nodes
 use Rattle.expression.specs.Body.{fourOf, flat, chartOf, bodyOf, writtenOf, bufferOf}
-use Rattle.starred.specs.Cases.{nodesG, nodesTwice, nodesSum, cases, allHold}
+use Rattle.witness.specs.Labellings as labelling
+use Rattle.bisimulation.specs.Relations as relation
+use Rattle.verdict.specs.Files.{recordStage, recordsFrom, recordsOf, offsetOf, bodyAt}
+use Rattle.verdict.specs.Verdicts.{bodiesOf, labellingOf, loopsOf, verdictOf}
+use Rattle.starred.specs.Cases.{nodesG, nodesTwice, nodesSum, labelsG, fileG, nested, cases, allHold}
 
 pub all-hold : allHold cases ≡ true
-unfolding cases nodesG nodesTwice nodesSum writtenOf bufferOf bodyOf chartOf flat fourOf checkOf misused malformed lowest tests.lowest count node transitions collect edges after rise riseF uses up first down downF precedes sort insert
+unfolding cases nodesG nodesTwice nodesSum labelsG fileG nested verdictOf loopsOf labellingOf bodiesOf bodyAt offsetOf recordsOf recordsFrom recordStage relation.relationOf relation.outcomeOf relation.strayTest relation.relatedTest relationOutcome failingPair pairOutcome unmatchedTest matchedTest labelling.labelledOf labelling.outcomeOf labelling.loopsOf labelling.stepTest outcome loopsOutcome failingTest loopOutcome notLowerTest cycleTest unreachedTest bodyTest loopList loopTest anyTest reaches rounds values tests.someBelow tests.lowest tests.firstRow tests.rowPairs tests.pairsFrom tests.pairs chart.checkOf chart.headerOk chart.fitsAt chart.aboveAt chart.okAt chart.firstBad chart._and_ writtenOf bufferOf bodyOf chartOf flat fourOf nodes.checkOf nodes.misused nodes.malformed nodes.lowest nodes.count nodes.node transitions collect edges after rise riseF uses up first down downF precedes sort insert
 all-hold = refl

@@ -1,14 +1,20 @@
 -- The table of the starred cases: what is asked of the definitions that the contracts cite, and what document 01 says.
 use mathlib.Core.Bool.{Bool, true, false, _&&_}
-use mathlib.Core.List.{List, [], _∷_}
+use mathlib.Core.List.{List, [], _∷_, _++_}
 use Prim.Native.Nat.{ℕ, suc}
 use lib.Dec.{eqb}
 use lib.ListN.{length, replicate}
 use Rattle.report.specs.declared.Numbers.{Numbers}
-use Rattle.report.specs.Numbers.{four, writtenNumbers}
+use Rattle.report.specs.Numbers.{four, verdictNumbers, writtenNumbers}
 use Rattle.expression.specs.Body.{writtenOf, bufferOf}
+use Rattle.witness.specs.Labellings.{labelledOf}
+use Rattle.verdict.specs.Verdicts.{counted, verdictOf}
 
 pub data Case : Type 0 where
+  -- the verdict on a yard file, as four numbers
+  checks : (file : List ℕ) (answer : Numbers) → Case
+  -- the checks of a labelling beside a chart body, as four numbers
+  labels : (body labelling : List ℕ) (answer : Numbers) → Case
   -- the expression's chart of some nodes, written to lent bytes: the answer's four numbers, and the lent bytes after it
   writes : (nodes lent : List ℕ) (answer : Numbers) (left : List ℕ) → Case
 
@@ -22,6 +28,8 @@ sameBytes (x ∷ xs) [] = false
 sameBytes (x ∷ xs) (y ∷ ys) = eqb x y && sameBytes xs ys
 
 abbrev pub holds : Case → Bool
+holds (checks file answer) = sameNumbers (verdictNumbers (verdictOf file)) answer
+holds (labels body labelling answer) = sameNumbers (verdictNumbers (counted body (labelledOf body labelling))) answer
 holds (writes nodes lent answer left) = sameNumbers (writtenNumbers (writtenOf nodes (length lent))) answer && sameBytes (bufferOf nodes lent) left
 
 abbrev pub allHold : List Case → Bool
@@ -39,10 +47,49 @@ nodesTwice = 0x01 ∷ 0x01 ∷ 0x00 ∷ 0x00 ∷ 0x01 ∷ 0x02 ∷ 0x00 ∷ 0x00
 unfoldable pub nodesSum : List ℕ
 nodesSum = 0x01 ∷ 0x07 ∷ 0x00 ∷ 0x00 ∷ 0x01 ∷ 0x07 ∷ 0x00 ∷ 0x00 ∷ 0x02 ∷ 0x00 ∷ 0x00 ∷ 0x01 ∷ []
 
+-- a row of a relation whose first byte is given
+abbrev pub row : ℕ → List ℕ
+row b = b ∷ replicate 15 0x00
+
+-- G with these nodes, labels and first and last rows of its relation
+unfoldable pub fileG : List ℕ → List ℕ → ℕ → ℕ → List ℕ
+fileG nodes labelling first last =
+    (0x0C ∷ 0x00 ∷ 0x01 ∷ 0x00 ∷ nodes)
+    ++ ((0x0C ∷ 0x00 ∷ 0x02 ∷ 0x00 ∷ 0x02 ∷ 0x01 ∷ 0x02 ∷ 0x00 ∷ 0x01 ∷ 0x01 ∷ 0x01 ∷ 0x00 ∷ 0x01 ∷ 0x02 ∷ 0x00 ∷ 0x00 ∷ [])
+    ++ ((0x02 ∷ 0x00 ∷ 0x03 ∷ 0x00 ∷ labelling)
+    ++ ((0x40 ∷ 0x00 ∷ 0x04 ∷ 0x00 ∷ row first)
+    ++ (row 0x00 ++ (row 0x00 ++ row last)))))
+
+-- V 3, start 1, (1,1,2) (1,3,0) (2,1,2) (2,2,1)
+unfoldable pub nested : List ℕ
+nested = 0x03 ∷ 0x01 ∷ 0x04 ∷ 0x00 ∷ 0x01 ∷ 0x01 ∷ 0x02 ∷ 0x00 ∷ 0x01 ∷ 0x03 ∷ 0x00 ∷ 0x00 ∷ 0x02 ∷ 0x01 ∷ 0x02 ∷ 0x00 ∷ 0x02 ∷ 0x02 ∷ 0x01 ∷ 0x00 ∷ []
+
+unfoldable pub labelsG : List ℕ
+labelsG = 0x01 ∷ 0x00 ∷ []
+
 unfoldable pub cases : List Case
 cases =
+    -- G
+    checks (fileG nodesG labelsG 0x01 0x02) (four 0 2 2 1)
+    -- empty
+    ∷ checks [] (four 2 1 0 0)
+    -- G and a byte
+    ∷ checks (fileG nodesG labelsG 0x01 0x02 ++ 0x00 ∷ []) (four 4 106 0 0)
+    -- labels 00 00, 01 01, 01 02
+    ∷ checks (fileG nodesG (0x00 ∷ 0x00 ∷ []) 0x01 0x02) (four 32 1 0 0)
+    ∷ checks (fileG nodesG (0x01 ∷ 0x01 ∷ []) 0x01 0x02) (four 34 1 1 0)
+    ∷ checks (fileG nodesG (0x01 ∷ 0x02 ∷ []) 0x01 0x02) (four 33 1 2 0)
+    -- row 3 cleared, row 0 cleared, row 0 03
+    ∷ checks (fileG nodesG labelsG 0x01 0x00) (four 42 3 1 0)
+    ∷ checks (fileG nodesG labelsG 0x00 0x02) (four 44 3 1 3)
+    ∷ checks (fileG nodesG labelsG 0x03 0x02) (four 43 0 1 0)
+    -- the root 04 00 00 00
+    ∷ checks (fileG nodesTwice labelsG 0x01 0x02) (four 12 0 2 0)
+    -- the chart of two nested loops with labels 1 0 1 0: a loop of equal level inside, at vertex 2
+    ∷ labels nested (0x01 ∷ 0x00 ∷ 0x01 ∷ 0x00 ∷ []) (four 35 1 1 2)
+    ∷ labels nested (0x02 ∷ 0x00 ∷ 0x01 ∷ 0x00 ∷ []) (four 0 3 4 2)
     -- G's expression chart; the two lent bytes past it are kept
-    writes nodesG (replicate 22 0xAA) (four 0 20 0 0) (0x04 ∷ 0x03 ∷ 0x04 ∷ 0x00 ∷ 0x01 ∷ 0x01 ∷ 0x03 ∷ 0x00 ∷ 0x02 ∷ 0x02 ∷ 0x00 ∷ 0x00 ∷ 0x03 ∷ 0x01 ∷ 0x03 ∷ 0x00 ∷ 0x03 ∷ 0x02 ∷ 0x00 ∷ 0x00 ∷ 0xAA ∷ 0xAA ∷ [])
+    ∷ writes nodesG (replicate 22 0xAA) (four 0 20 0 0) (0x04 ∷ 0x03 ∷ 0x04 ∷ 0x00 ∷ 0x01 ∷ 0x01 ∷ 0x03 ∷ 0x00 ∷ 0x02 ∷ 0x02 ∷ 0x00 ∷ 0x00 ∷ 0x03 ∷ 0x01 ∷ 0x03 ∷ 0x00 ∷ 0x03 ∷ 0x02 ∷ 0x00 ∷ 0x00 ∷ 0xAA ∷ 0xAA ∷ [])
     -- a lent byte too few: refused 54 with the bytes needed, and nothing lent is touched
     ∷ writes nodesG (replicate 19 0xAA) (four 54 20 0 0) (replicate 19 0xAA)
     -- the root 04 00 00 00: refused 12 0 2 0
