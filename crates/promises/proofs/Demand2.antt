@@ -1,0 +1,52 @@
+-- Demand 2, proved.
+use mathlib.Core.Path.{_≡_, refl, sym, _∙_, ap, subst}
+use mathlib.Core.Logic.{_↔_}
+use mathlib.Core.List.{List, _++_, List·Memᴰ}
+use Prim.Native.Nat.{ℕ, suc, _-_, _<_, _≤_}
+use native.Mathlib.Omega.{arith}
+use lib.ListN.{length, drop}
+use Rattle.theory.specs.Expressions.{Target, Step}
+use Rattle.theory.specs.Nodes.{expr, residual, meaning}
+use Rattle.theory.proofs.ExpressionCharts.{residual-of-start}
+use Rattle.report.specs.declared.Stage.the-variants as stage
+use Rattle.report.specs.declared.Written.the-variants as written
+use Rattle.bits.specs.Bits.{Bytes}
+use Rattle.chart.specs.Checks as chart
+use Rattle.chart.specs.Steps.{transitionsOf}
+use Rattle.expression.specs.Table as nodes
+use Rattle.expression.specs.Body.{bodyOf, chartOf, writtenOf, bufferOf}
+use Rattle.expression.specs.Charts.{IsChart}
+use Rattle.expression.proofs.Table.{passed→well-formed, tree}
+use Rattle.expression.proofs.Chart.{body-start, body-transitions, passed-chart, length-says}
+use Rattle.witness.proofs.Labellings.{labelled-iff-witness}
+use Rattle.bisimulation.proofs.Relations.{relation-iff-bisimulation}
+use Rattle.promises.specs.Demand2.{ExactSteps, WritesTheChart, LabellingPasses, RelationPasses}
+
+module _ (s : List ℕ) (passed : nodes.checkOf s ≡ stage.Passed) where
+  chart-of : IsChart s (chartOf s)
+  chart-of = passed-chart s passed
+
+  vertex-of : (u a t : ℕ) → List·Memᴰ (u, a, t) (chartOf s) → (k : ℕ) × (k < nodes.count s) × (u ≡ suc k)
+  vertex-of u a t m = let b = chart-of .fits (u, a, t) m in (u - 1, omega arith, omega arith)
+
+  pub exact-steps : ExactSteps s (bodyOf s)
+  exact-steps = record {
+    derived = λ k h a ξ. (
+      (λ d. let (t, m, e) = chart-of .all k h d in (t, rw body-transitions m, e)),
+      (λ (t, m, e). subst (Step (residual (nodes.node s) (nodes.count s) k) a) e (chart-of .steps k a t (rw body-transitions at m) .1)),
+    );
+    vertices = λ u a t m. vertex-of u a t (rw body-transitions at m);
+    start = λ k e. (body-start s ∙ e, residual-of-start (nodes.node s) (nodes.count s) (tree s (passed→well-formed s passed)) k e);
+  }
+
+-- the expression's chart is written with exactly the steps that the rules derive
+pub writes-the-chart : (s lent : List ℕ) → WritesTheChart s lent
+writes-the-chart s lent n e = let (p, l, w, q) = length-says s lent n e in (bodyOf s, q, sym l, exact-steps s p)
+
+-- a labelling passes exactly when it is a layered loop witness of a connected chart
+pub labelling-passes : (b labels : List ℕ) → chart.checkOf b ≡ stage.Passed → Bytes labels → LabellingPasses b labels
+labelling-passes b labels passed bytes = labelled-iff-witness b labels passed bytes
+
+-- a relation passes exactly when it is a bisimulation
+pub relation-passes : (e b relation : List ℕ) → RelationPasses e b relation
+relation-passes e b relation = relation-iff-bisimulation e b relation

@@ -1,0 +1,3 @@
+-- The demands as statements.
+pub mod Demand2
+pub mod Accepted

@@ -1,0 +1,1 @@
+// The demands, stated in the words of the theory and proved; there is no code here.
