@@ -1,2 +1,3 @@
 -- The proofs of the demands.
 pub mod Demand2
+pub mod Accepted

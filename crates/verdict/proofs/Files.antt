@@ -9,13 +9,17 @@ use native.Mathlib.Omega.{arith}
 use lib.Dec.{eqb, ltb}
 use lib.ListN.{length, getD, take, drop, length-take, length-drop}
 use lib.Seq.{drop-cons}
+use borrow.Author.Count.{below-more}
 use borrow.Author.Tests.{lt-ltb, le-ltb, eq-eqb, ne-eqb, ltb-true, ltb-false, eqb-true, eqb-false}
 use Rattle.report.specs.declared.Place.{Place}
 use Rattle.report.specs.declared.Place.the-variants.{File, Record, RecordKind, FileOffset}
 use Rattle.report.specs.declared.Stage.{Stage}
 use Rattle.report.specs.declared.Stage.the-variants.{Passed, Refused}
 use Rattle.bits.specs.Bits.{Bytes}
-use Rattle.verdict.specs.Files.{andThen, twoBytes, recordOf, fileOf, pairAt, endAt, recordStage, recordsFrom, recordsOf, offsetOf, bodyAt, Fits, Whole}
+use Rattle.verdict.specs.Files.{andThen, twoBytes, recordOf, fileOf, pairAt, endAt, recordStage, recordsFrom, recordsOf, offsetOf, bodyAt, Fits, Whole, Before, RecordsChecked, too-long, cut-header, other-kind, cut-body, bytes-after, whole}
+
+refused-not : {p : Place} → Refused p ≢ Passed
+refused-not e = let z : _≡_ {A = ℕ} 0 1 = cc in omega arith
 
 -- ONE RECORD
 module _ (f : List ℕ) (kind at : ℕ) where
@@ -35,9 +39,6 @@ module _ (f : List ℕ) (kind at : ℕ) where
     pub record-passes : kind ≡ pairAt f (at + 2) → endAt f at ≤ length f → Passed ≡ recordStage f kind at
     unfolding recordStage
     record-passes e g = rw (le-ltb (length f) (at + 4) h, ← e, eq-eqb kind kind refl, le-ltb (length f) (endAt f at) g)
-
-  refused-not : {p : Place} → Refused p ≢ Passed
-  refused-not e = let z : _≡_ {A = ℕ} 0 1 = cc in omega arith
 
   -- it passes exactly when it fits
   pub record-fits : (recordStage f kind at ≡ Passed) ↔ Fits f kind at
@@ -86,53 +87,79 @@ both-passed Passed b e = (refl, e)
 both-passed (Refused p) b e = absurd (let z : _≡_ {A = ℕ} 0 1 = cc in omega arith)
 
 module _ (f : List ℕ) where
-  last-passed : (at : ℕ) → at ≤ length f → cond (ltb at (length f)) (Refused (FileOffset at)) Passed ≡ Passed → at ≡ length f
-  last-passed at h e = go (ltb at (length f)) refl e
-    where
-      go : (b : Bool) → ltb at (length f) ≡ b → cond b (Refused (FileOffset at)) Passed ≡ Passed → at ≡ length f
-      go true q e = absurd (refused-not f 0 0 e)
-      go false q e = omega (arith, ltb-false at (length f) q)
+  one-more : (k : ℕ) → Before f k → Fits f (suc k) (offsetOf f k) → Before f (suc k)
+  one-more k (s, b) g = (s, λ j h. below-more (λ (j : ℕ). Fits f (suc j) (offsetOf f j)) k b g j (omega arith))
 
-  pub records-whole : recordsOf f ≡ Passed → Whole f
-  unfolding recordsOf recordsFrom offsetOf
-  records-whole e = go (ltb 43536 (length f)) refl e
+  -- at the end: 4, or nothing after
+  end-checked : Before f 4 → RecordsChecked f (cond (ltb (offsetOf f 4) (length f)) (Refused (FileOffset (offsetOf f 4))) Passed)
+  unfolding offsetOf
+  end-checked b = go (ltb (offsetOf f 4) (length f)) refl
     where
-      go : (b : Bool) → ltb 43536 (length f) ≡ b → cond b (Refused File) (recordsFrom f 1 0 4) ≡ Passed → Whole f
-      go true q e = absurd (refused-not f 0 0 e)
-      go false q e =
-          let (a, e₁) = both-passed (recordStage f 1 0) (recordsFrom f 2 (offsetOf f 1) 3) e in
-          let (b, e₂) = both-passed (recordStage f 2 (offsetOf f 1)) (recordsFrom f 3 (offsetOf f 2) 2) e₁ in
-          let (c, e₃) = both-passed (recordStage f 3 (offsetOf f 2)) (recordsFrom f 4 (offsetOf f 3) 1) e₂ in
-          let (d, e₄) = both-passed (recordStage f 4 (offsetOf f 3)) (recordsFrom f 5 (offsetOf f 4) 0) e₃ in
-          let l : Fits f 4 (offsetOf f 3) = record-fits f 4 (offsetOf f 3) .0 d in
-          record {
-            short = ltb-false _ _ q;
-            each = each-of (record-fits f 1 0 .0 a) (record-fits f 2 (offsetOf f 1) .0 b) (record-fits f 3 (offsetOf f 2) .0 c) l;
-            nothing-after = last-passed (offsetOf f 4) (l .body) e₄;
-          }
-        where
-          each-of : Fits f 1 0 → Fits f 2 (offsetOf f 1) → Fits f 3 (offsetOf f 2) → Fits f 4 (offsetOf f 3) → (k : ℕ) → k < 4 → Fits f (suc k) (offsetOf f k)
-          each-of a b c d zero h = a
-          each-of a b c d (suc zero) h = b
-          each-of a b c d (suc (suc zero)) h = c
-          each-of a b c d (suc (suc (suc zero))) h = d
-          each-of a b c d (suc (suc (suc (suc k)))) h = absurd (omega arith)
+      go : (t : Bool) → ltb (offsetOf f 4) (length f) ≡ t → RecordsChecked f (cond t (Refused (FileOffset (offsetOf f 4))) Passed)
+      go true q = bytes-after b (ltb-true _ _ q)
+      go false q =
+          let l : Fits f 4 (offsetOf f 3) = b .1 3 (omega arith) in
+          whole (record { short = b .0; each = b .1; nothing-after = omega (arith, l .body, ltb-false (offsetOf f 4) (length f) q) })
 
-  pub whole-records : Whole f → recordsOf f ≡ Passed
-  unfolding recordsOf recordsFrom offsetOf
-  whole-records w =
-      rw (
-        le-ltb 43536 (length f) (w .short),
-        record-fits f 1 0 .1 (w .each 0 (omega arith)),
-        record-fits f 2 (offsetOf f 1) .1 (w .each 1 (omega arith)),
-        record-fits f 3 (offsetOf f 2) .1 (w .each 2 (omega arith)),
-        record-fits f 4 (offsetOf f 3) .1 (w .each 3 (omega arith)),
-        le-ltb (offsetOf f 4) (length f) (omega (arith, w .nothing-after)),
-      )
+  -- the n records from record k on
+  from-checked : (n k : ℕ) → k + n ≡ 4 → Before f k → RecordsChecked f (recordsFrom f (suc k) (offsetOf f k) n)
+  unfolding recordsFrom recordStage offsetOf
+  from-checked zero k e b = let z : k ≡ 4 = omega arith in rw z (end-checked (rw z at b))
+  from-checked (suc n) k e b = go (ltb (length f) (offsetOf f k + 4)) (eqb (pairAt f (offsetOf f k + 2)) (suc k)) (ltb (length f) (endAt f (offsetOf f k))) refl refl refl (λ g. from-checked n (suc k) (omega arith) (one-more k b g))
+    where
+      go : (x y z : Bool) → ltb (length f) (offsetOf f k + 4) ≡ x → eqb (pairAt f (offsetOf f k + 2)) (suc k) ≡ y → ltb (length f) (endAt f (offsetOf f k)) ≡ z
+          → (Fits f (suc k) (offsetOf f k) → RecordsChecked f (recordsFrom f (suc (suc k)) (offsetOf f (suc k)) n))
+          → RecordsChecked f (andThen (cond x (Refused (Record (suc k))) (cond y (cond z (Refused (Record (suc k))) Passed) (Refused (RecordKind (suc k) (pairAt f (offsetOf f k + 2)))))) (recordsFrom f (suc (suc k)) (offsetOf f (suc k)) n))
+      go true y z p q r next = cut-header k (omega arith) b (ltb-true _ _ p)
+      go false false z p q r next = other-kind k (omega arith) b (ltb-false _ _ p) (eqb-false _ _ q)
+      go false true true p q r next = cut-body k (omega arith) b (ltb-false _ _ p) (eqb-true _ _ q) (ltb-true _ _ r)
+      go false true false p q r next = next (record { header = ltb-false _ _ p; is-kind = eqb-true _ _ q; body = ltb-false _ _ r })
+
+  -- 1 TO 4 ANSWER what the cases say
+  pub records-checked : RecordsChecked f (recordsOf f)
+  unfolding recordsOf offsetOf
+  records-checked = go (ltb 43536 (length f)) refl
+    where
+      go : (t : Bool) → ltb 43536 (length f) ≡ t → RecordsChecked f (cond t (Refused File) (recordsFrom f 1 0 4))
+      go true q = too-long (ltb-true _ _ q)
+      go false q = from-checked 4 0 (omega arith) (ltb-false _ _ q, λ j h. absurd (omega arith))
+
+  passed-whole : {s : Stage} → RecordsChecked f s → s ≡ Passed → Whole f
+  passed-whole (too-long h) e = absurd (refused-not e)
+  passed-whole (cut-header k h b c) e = absurd (refused-not e)
+  passed-whole (other-kind k h b c d) e = absurd (refused-not e)
+  passed-whole (cut-body k h b c d g) e = absurd (refused-not e)
+  passed-whole (bytes-after b h) e = absurd (refused-not e)
+  passed-whole (whole w) e = w
+
+  -- the check comes to record k where those before it fit
+  come-to : (k n : ℕ) → k + n ≡ 4 → Before f k → recordsFrom f (suc k) (offsetOf f k) n ≡ recordsOf f
+  unfolding recordsFrom offsetOf
+  come-to zero n e b = let z : n ≡ 4 = omega arith in rw z (records-from f (b .0))
+  come-to (suc k) n e b =
+      let g : Passed ≡ recordStage f (suc k) (offsetOf f k) = sym (record-fits f (suc k) (offsetOf f k) .1 (b .1 k (omega arith))) in
+      ap (λ (s : Stage). andThen s (recordsFrom f (suc (suc k)) (offsetOf f (suc k)) n)) g ∙ come-to k (suc n) (omega arith) (b .0, λ j h. b .1 j (omega arith))
+
+  stops-at : (k : ℕ) (p : Place) → k < 4 → Before f k → Refused p ≡ recordStage f (suc k) (offsetOf f k) → Refused p ≡ recordsOf f
+  unfolding recordsFrom
+  stops-at k p h b e = ap (λ (s : Stage). andThen s (recordsFrom f (suc (suc k)) (endAt f (offsetOf f k)) (3 - k))) e ∙ come-to k (suc (3 - k)) (omega arith) b
+
+  -- and only that
+  pub checked-records : {s : Stage} → RecordsChecked f s → s ≡ recordsOf f
+  unfolding recordsFrom
+  checked-records (too-long h) = records-long f h
+  checked-records (cut-header k h b c) = stops-at k _ h b (record-cut f (suc k) (offsetOf f k) c)
+  checked-records (other-kind k h b c d) = stops-at k _ h b (record-other f (suc k) (offsetOf f k) c _ refl d)
+  checked-records (cut-body k h b c d g) = stops-at k _ h b (record-short f (suc k) (offsetOf f k) c (sym d) g)
+  checked-records (bytes-after b h) = rw (← come-to 4 0 (omega arith) b, lt-ltb (offsetOf f 4) (length f) h)
+  checked-records (whole w) = rw (← come-to 4 0 (omega arith) (w .short, w .each), le-ltb (offsetOf f 4) (length f) (omega (arith, w .nothing-after)))
 
   -- 1 TO 4 PASS exactly where the file is four records and nothing after
   pub records-iff : (recordsOf f ≡ Passed) ↔ Whole f
-  records-iff = (records-whole, whole-records)
+  records-iff = (passed-whole records-checked, λ w. sym (checked-records (whole w)))
+
+  pub records-whole : recordsOf f ≡ Passed → Whole f
+  records-whole = records-iff .0
 
   pub offset-none : 0 ≡ offsetOf f 0
   unfolding offsetOf

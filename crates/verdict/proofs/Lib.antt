@@ -1,3 +1,5 @@
 -- The laws.
 pub mod Files
+pub mod Layouts
 pub mod Stages
+pub mod Verdicts

@@ -2,6 +2,7 @@
 use mathlib.Core.Bool.{cond}
 use mathlib.Core.List.{List, [], _∷_, _++_}
 use mathlib.Core.Path.{_≡_}
+use mathlib.Core.Logic.{_≢_}
 use Prim.Native.Nat.{ℕ, zero, suc, _+_, _*_, _/_, _%_, _<_, _≤_}
 use lib.Dec.{eqb, ltb}
 use lib.ListN.{length, getD, take, drop}
@@ -67,3 +68,16 @@ pub record Whole (f : List ℕ) : Type 0 where
   pub short : length f ≤ 43536
   pub each : (k : ℕ) → k < 4 → Fits f (suc k) (offsetOf f k)
   pub nothing-after : offsetOf f 4 ≡ length f
+
+-- the records before record k, from 0, are what 1 to 3 ask
+abbrev pub Before : List ℕ → ℕ → Type 0
+Before f k = (length f ≤ 43536) × ((j : ℕ) → j < k → Fits f (suc j) (offsetOf f j))
+
+-- THE REFUSALS 1 TO 4, by cases: each names the first thing that is wrong
+pub data RecordsChecked (f : List ℕ) : Stage → Type 0 where
+  too-long : 43536 < length f → RecordsChecked f (Refused File)
+  cut-header : (k : ℕ) → k < 4 → Before f k → length f < offsetOf f k + 4 → RecordsChecked f (Refused (Record (suc k)))
+  other-kind : (k : ℕ) → k < 4 → Before f k → offsetOf f k + 4 ≤ length f → pairAt f (offsetOf f k + 2) ≢ suc k → RecordsChecked f (Refused (RecordKind (suc k) (pairAt f (offsetOf f k + 2))))
+  cut-body : (k : ℕ) → k < 4 → Before f k → offsetOf f k + 4 ≤ length f → pairAt f (offsetOf f k + 2) ≡ suc k → length f < endAt f (offsetOf f k) → RecordsChecked f (Refused (Record (suc k)))
+  bytes-after : Before f 4 → offsetOf f 4 < length f → RecordsChecked f (Refused (FileOffset (offsetOf f 4)))
+  whole : Whole f → RecordsChecked f Passed

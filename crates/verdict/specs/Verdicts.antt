@@ -1,6 +1,8 @@
 -- The verdict on a yard file: the stages in document 01's order, and the counts of an accepted file.
+use mathlib.Core.Path.{_≡_}
 use mathlib.Core.List.{List}
 use Prim.Native.Nat.{ℕ}
+use Rattle.report.specs.declared.Place.{Place}
 use Rattle.report.specs.declared.Stage.{Stage}
 use Rattle.report.specs.declared.Stage.the-variants as stage
 use Rattle.report.specs.declared.Verdict.{Verdict}
@@ -56,3 +58,13 @@ after (stage.Refused place) v = Refused place
 
 unfoldable pub verdictOf : List ℕ → Verdict
 verdictOf f = after (bodiesOf f) (loopsOf f)
+
+-- THE CHECK THAT FAILS, with its place: those before it pass
+pub data Fails (f : List ℕ) (p : Place) : Type 0 where
+  records-fail : recordsOf f ≡ stage.Refused p → Fails f p
+  nodes-fail : recordsOf f ≡ stage.Passed → expression.checkOf (nodesIn f) ≡ stage.Refused p → Fails f p
+  chart-fails : recordsOf f ≡ stage.Passed → expression.checkOf (nodesIn f) ≡ stage.Passed → chart.checkOf (chartIn f) ≡ stage.Refused p → Fails f p
+  labels-fail : recordsOf f ≡ stage.Passed → expression.checkOf (nodesIn f) ≡ stage.Passed → chart.checkOf (chartIn f) ≡ stage.Passed
+      → labelledOf (chartIn f) (labelsIn f) ≡ labelled.Refused p → Fails f p
+  relation-fails : {l : ℕ} → recordsOf f ≡ stage.Passed → expression.checkOf (nodesIn f) ≡ stage.Passed → chart.checkOf (chartIn f) ≡ stage.Passed
+      → labelledOf (chartIn f) (labelsIn f) ≡ labelled.Passed l → relationOf (bodyOf (nodesIn f)) (chartIn f) (relationIn f) ≡ stage.Refused p → Fails f p
