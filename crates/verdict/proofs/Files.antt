@@ -1,22 +1,20 @@
--- The refusals 1 to 4, and what a file that they let pass is.
-use mathlib.Core.Path.{_≡_, refl, sym, _∙_, ap, ap₂}
+-- The refusals 1 to 4: the test answers as the cases say, and passes just the whole files.
+use mathlib.Core.Path.{_≡_, refl, sym, _∙_, ap}
 use mathlib.Core.Logic.{_≢_, _↔_}
 use mathlib.Core.Bool.{Bool, true, false, cond}
-use mathlib.Core.List.{List, [], _∷_, _++_, append-assoc}
-use Prim.Native.Nat.{ℕ, zero, suc, _+_, _-_, _*_, _/_, _%_, _≤_, _<_}
+use mathlib.Core.List.{List}
+use Prim.Native.Nat.{ℕ, zero, suc, _+_, _-_, _≤_, _<_}
 use native.Mathlib.Numerals.{add-one}
 use native.Mathlib.Omega.{arith}
 use lib.Dec.{eqb, ltb}
-use lib.ListN.{length, getD, take, drop, length-take, length-drop}
-use lib.Seq.{drop-cons}
+use lib.ListN.{length, take, drop}
 use borrow.Author.Count.{below-more}
 use borrow.Author.Tests.{lt-ltb, le-ltb, eq-eqb, ne-eqb, ltb-true, ltb-false, eqb-true, eqb-false}
 use Rattle.report.specs.declared.Place.{Place}
 use Rattle.report.specs.declared.Place.the-variants.{File, Record, RecordKind, FileOffset}
 use Rattle.report.specs.declared.Stage.{Stage}
 use Rattle.report.specs.declared.Stage.the-variants.{Passed, Refused}
-use Rattle.bits.specs.Bits.{Bytes}
-use Rattle.verdict.specs.Files.{andThen, twoBytes, recordOf, fileOf, pairAt, endAt, recordStage, recordsFrom, recordsOf, offsetOf, bodyAt, Fits, Whole, Before, RecordsChecked, too-long, cut-header, other-kind, cut-body, bytes-after, whole}
+use Rattle.verdict.specs.Files.{andThen, pairAt, endAt, recordStage, recordsFrom, recordsOf, offsetOf, bodyAt, Fits, Whole, Before, RecordsChecked, too-long, cut-header, other-kind, cut-body, bytes-after, whole}
 
 refused-not : {p : Place} → Refused p ≢ Passed
 refused-not e = let z : _≡_ {A = ℕ} 0 1 = cc in omega arith
@@ -115,7 +113,7 @@ module _ (f : List ℕ) where
       go false true true p q r next = cut-body k (omega arith) b (ltb-false _ _ p) (eqb-true _ _ q) (ltb-true _ _ r)
       go false true false p q r next = next (record { header = ltb-false _ _ p; is-kind = eqb-true _ _ q; body = ltb-false _ _ r })
 
-  -- 1 TO 4 ANSWER what the cases say
+  -- THE TEST'S ANSWER is one that the cases give
   pub records-checked : RecordsChecked f (recordsOf f)
   unfolding recordsOf offsetOf
   records-checked = go (ltb 43536 (length f)) refl
@@ -144,7 +142,7 @@ module _ (f : List ℕ) where
   unfolding recordsFrom
   stops-at k p h b e = ap (λ (s : Stage). andThen s (recordsFrom f (suc (suc k)) (endAt f (offsetOf f k)) (3 - k))) e ∙ come-to k (suc (3 - k)) (omega arith) b
 
-  -- and only that
+  -- the cases give no other
   pub checked-records : {s : Stage} → RecordsChecked f s → s ≡ recordsOf f
   unfolding recordsFrom
   checked-records (too-long h) = records-long f h

@@ -1,7 +1,7 @@
 -- A whole file is the layout of its four bodies, and the layout of four bodies is a whole file with these bodies.
-use mathlib.Core.Path.{_≡_, refl, sym, _∙_, ap, ap₂}
+use mathlib.Core.Path.{_≡_, refl, sym, _∙_, ap}
 use mathlib.Core.List.{List, [], _∷_, _++_, append-assoc, append-nil}
-use Prim.Native.Nat.{ℕ, zero, suc, _+_, _-_, _*_, _/_, _%_, _≤_, _<_}
+use Prim.Native.Nat.{ℕ, zero, suc, _+_, _*_, _/_, _%_, _≤_, _<_}
 use native.Mathlib.Numerals.{add-one}
 use native.Mathlib.Omega.{arith}
 use lib.ListN.{length, getD, take, drop, length-append, length-drop, take-append-drop}
@@ -16,7 +16,7 @@ two-bytes x y h =
     let b : (x + 256 * y) / 256 ≡ y = omega arith in
     rw (a, b)
 
--- READ. From the record at an offset on
+-- READ: what a file holds from an offset on
 module _ (f : List ℕ) (bytes : Bytes f) where
   pair-there : (at : ℕ) → at + 2 ≤ length f → drop at f ≡ twoBytes (pairAt f at) ++ drop (at + 2) f
   pair-there at h =
@@ -55,7 +55,7 @@ module _ (f : List ℕ) (bytes : Bytes f) where
         ∙ ap (λ (l : List ℕ). recordOf 3 (bodyAt f 2) ++ l) (there 3 (omega arith)
         ∙ ap (λ (l : List ℕ). recordOf 4 (bodyAt f 3) ++ l) nothing ∙ append-nil (recordOf 4 (bodyAt f 3)))))
 
--- WRITTEN. A number, then a record, after a prefix
+-- WRITTEN: what is read of a number, and of a record, after a prefix
 pair-after : (p q : List ℕ) (n at : ℕ) → length p ≡ at → pairAt (p ++ (twoBytes n ++ q)) at ≡ n
 pair-after p q n at e =
     let a : getD (p ++ (twoBytes n ++ q)) at 0 ≡ n % 256 = getD-at p (n % 256) (n / 256 ∷ q) 0 at e in
@@ -88,11 +88,11 @@ module _ (f p x q : List ℕ) (kind at : ℕ) (is : f ≡ p ++ (recordOf kind x 
       let g : endAt f at ≤ length f = omega (arith, end-there) in
       record { header = omega arith; is-kind = kind-there; body = g }
 
--- record k of a file after what stands before it
-pub record Placed (f : List ℕ) (k : ℕ) (p x : List ℕ) : Type 0 where
-  pub fits : Fits f (suc k) (offsetOf f k)
-  pub body-is : bodyAt f k ≡ x
-  pub next : length (p ++ recordOf (suc k) x) ≡ offsetOf f (suc k)
+-- x is the body of record k, from 0, where p is all before it
+record Placed (f : List ℕ) (k : ℕ) (p x : List ℕ) : Type 0 where
+  fits : Fits f (suc k) (offsetOf f k)
+  body-is : bodyAt f k ≡ x
+  next : length (p ++ recordOf (suc k) x) ≡ offsetOf f (suc k)
 
 placed : (f : List ℕ) (k : ℕ) (p x q : List ℕ) → f ≡ p ++ (recordOf (suc k) x ++ q) → length p ≡ offsetOf f k → Placed f k p x
 unfolding offsetOf bodyAt

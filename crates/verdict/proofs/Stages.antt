@@ -78,11 +78,11 @@ module _ (f : List ℕ) where
   -- THE VERDICT
   pub verdict-bodies : (s : Stage) (p : Place) → s ≡ bodiesOf f → s ≡ stage.Refused p → Refused p ≡ verdictOf f
   unfolding verdictOf
-  verdict-bodies s p e r = rw (← e, r)
+  verdict-bodies s p e r = ap (λ (x : Stage). after x (loopsOf f)) (sym r ∙ e)
 
   pub verdict-loops : bodiesOf f ≡ stage.Passed → (x : Verdict) → x ≡ loopsOf f → x ≡ verdictOf f
   unfolding verdictOf
-  verdict-loops e x g = g ∙ rw e
+  verdict-loops e x g = g ∙ ap (λ (x : Stage). after x (loopsOf f)) (sym e)
 
 -- the expression's chart in bytes that are long enough for every one
 module _ (s lent : List ℕ) (passed : expression.checkOf s ≡ stage.Passed) (long : length lent ≡ 32772) where

@@ -1,5 +1,5 @@
 -- The verdict: accepted exactly where no check fails, refused exactly at the place of the one that does.
-use mathlib.Core.Path.{_≡_, refl, sym}
+use mathlib.Core.Path.{_≡_, refl, sym, _∙_}
 use mathlib.Core.Logic.{_≢_, _↔_}
 use mathlib.Core.List.{List}
 use Prim.Native.Nat.{ℕ}
@@ -68,3 +68,11 @@ module _ (f : List ℕ) where
   -- no two checks answer at once
   pub one-place : {p q : Place} → Fails f p → Fails f q → p ≡ q
   one-place a b = cc (fails-refused a, fails-refused b)
+
+  -- accepted with some counts exactly where no check fails
+  pub accepted-none : ((v : ℕ) × (t : ℕ) × (l : ℕ) × (verdictOf f ≡ Accepted v t l)) ↔ ((p : Place) → Fails f p → ⊥)
+  accepted-none = (λ (v, t, l, e) p h. apart (sym (fails-refused h) ∙ e), go (verdictOf f) refl)
+    where
+      go : (x : Verdict) → verdictOf f ≡ x → ((p : Place) → Fails f p → ⊥) → (v : ℕ) × (t : ℕ) × (l : ℕ) × (verdictOf f ≡ Accepted v t l)
+      go (Accepted v t l) e n = (v, t, l, e)
+      go (Refused p) e n = absurd (n p (refused-fails e))

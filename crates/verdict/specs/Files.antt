@@ -1,4 +1,4 @@
--- The yard file (document 01): four records of kinds 1 to 4, nothing after; and the refusals 1 to 4 as a test that runs.
+-- The yard file (document 01): four records of kinds 1 to 4, nothing after; and the refusals 1 to 4, as a test that runs and by cases.
 use mathlib.Core.Bool.{cond}
 use mathlib.Core.List.{List, [], _∷_, _++_}
 use mathlib.Core.Path.{_≡_}
@@ -69,11 +69,11 @@ pub record Whole (f : List ℕ) : Type 0 where
   pub each : (k : ℕ) → k < 4 → Fits f (suc k) (offsetOf f k)
   pub nothing-after : offsetOf f 4 ≡ length f
 
--- the records before record k, from 0, are what 1 to 3 ask
+-- 1 does not refuse, and every record before record k, from 0, fits
 abbrev pub Before : List ℕ → ℕ → Type 0
 Before f k = (length f ≤ 43536) × ((j : ℕ) → j < k → Fits f (suc j) (offsetOf f j))
 
--- THE REFUSALS 1 TO 4, by cases: each names the first thing that is wrong
+-- THE REFUSALS 1 TO 4, by cases: where a record is refused, those before it fit
 pub data RecordsChecked (f : List ℕ) : Stage → Type 0 where
   too-long : 43536 < length f → RecordsChecked f (Refused File)
   cut-header : (k : ℕ) → k < 4 → Before f k → length f < offsetOf f k + 4 → RecordsChecked f (Refused (Record (suc k)))

@@ -1,4 +1,4 @@
--- The verdict on a yard file: the stages in document 01's order, and the counts of an accepted file.
+-- The verdict on a yard file: the stages in document 01's order, the counts of an accepted file, and the check that fails.
 use mathlib.Core.Path.{_≡_}
 use mathlib.Core.List.{List}
 use Prim.Native.Nat.{ℕ}
