@@ -154,8 +154,8 @@ pub fn check(file: &[u8]) -> Verdict
     ensures { λ r. ⌜ r ≡ verdictOf (now (file .entry)) ⌝ }
 {
     let stage = check_bodies(file);
-    let Stage::Refused(place) = stage else {
+    let Stage::Refused(first) = stage else {
         return check_loops(file);
     };
-    Verdict::Refused(place)
+    Verdict::Refused(first)
 }
