@@ -1,0 +1,50 @@
+/* The sequence desk for the panel's firmware, in libsequence.a: gcc panel.c libsequence.a.
+ *
+ * A slice is two arguments, a pointer and then its length in bytes; NULL with length 0 is an empty
+ * slice. The slices of one call must not overlap. Whatever the bytes are, a call answers; it keeps no
+ * pointer and no state, allocates nothing, and needs memcpy and memset and less than 128 KiB of
+ * stack. */
+#ifndef SEQUENCE_H
+#define SEQUENCE_H
+
+#include <stddef.h>
+#include <stdint.h>
+
+#ifdef __cplusplus
+extern "C" {
+#endif
+
+/* n is document 01's number of a refusal and p, q, r its places, unused ones 0. Where nothing is
+ * refused n is 0 and p, q, r are what the call says below. */
+typedef struct seq_numbers {
+    uint64_t n;
+    uint64_t p;
+    uint64_t q;
+    uint64_t r;
+} seq_numbers;
+
+/* The longest yard file, and the longest chart of an expression, in bytes. */
+#define SEQ_LONGEST_FILE 43536
+#define SEQ_LONGEST_CHART 32772
+
+/* The verdict on a yard file.
+ *
+ * Accepted: n 0, p its vertices V, q its transitions T, r the number of its loops.
+ * Refused: the first check that fails, n of 1 to 4, 10 to 12, 20, 21, 30 to 35 and 40 to 45.
+ * The file is only read. */
+seq_numbers seq_check(const uint8_t *file, size_t file_len);
+
+/* Writes the chart of an expression, in the form of a chart body, to the beginning of out. nodes is
+ * the body of a record of kind 1.
+ *
+ * Written: n 0, p its length in bytes, q and r 0. The bytes of out past that length are kept.
+ * Refused: n 10, 11 or 12 for the nodes; n 54 where out is too short, p the bytes needed. No byte of
+ * out is changed.
+ * The nodes are only read. SEQ_LONGEST_CHART bytes are enough for every expression. */
+seq_numbers seq_write_chart(const uint8_t *nodes, size_t nodes_len, uint8_t *out, size_t out_len);
+
+#ifdef __cplusplus
+}
+#endif
+
+#endif

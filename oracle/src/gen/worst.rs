@@ -1,0 +1,269 @@
+//! Files at the limits, each hard on one stage of the check. All are accepted.
+use super::charts::chart_of;
+use super::expressions::{self, Shape};
+use super::relations;
+use super::rng::Rng;
+use super::Yard;
+use crate::plain::{expression_chart, read_nodes, Transition};
+use std::collections::BTreeMap;
+
+/// Labelled steps before they are put in order: 0 is a branch.
+type Labelled = BTreeMap<Transition, u8>;
+
+fn step(from: usize, action: u8, to: usize) -> Transition {
+    Transition { from, action, to }
+}
+
+/// The file of a chart with these labelled steps and the greatest bisimulation.
+fn yard(shape: &Shape, vertices: usize, start: usize, labelled: Labelled) -> Yard {
+    let expression = expressions::post_order(shape);
+    let nodes = read_nodes(&expression).expect("a well-formed expression");
+    let of_expression = expression_chart(&nodes);
+    let chart = chart_of(vertices, start, labelled.keys().copied().collect());
+    let pairs = relations::greatest(&of_expression, &chart);
+    Yard {
+        expression,
+        chart: chart.bytes(),
+        labelling: labelled.into_values().collect(),
+        relation: relations::bytes(&of_expression, &pairs),
+    }
+}
+
+/// Actions 1 to `actions` for ever.
+fn forever(actions: u8) -> Shape {
+    Shape::star(Shape::sum_of_actions(actions), Shape::Deadlock)
+}
+
+/// Every vertex branches to all lower ones, `top` vertices in all; vertex 1
+/// has an entry to every vertex, each of its own level.
+fn downwards(top: usize, entries: usize) -> Labelled {
+    let mut labelled = Labelled::new();
+    for v in 2..=top {
+        for to in 1..v {
+            labelled.insert(step(v, 1, to), 0);
+        }
+    }
+    for to in 1..=entries {
+        labelled.insert(step(1, 1, to), to as u8);
+    }
+    labelled
+}
+
+/// Check 32: V 128 with a branch from each vertex to all lower ones.
+pub fn many_vertices() -> Yard {
+    yard(&forever(1), 128, 127, downwards(127, 127))
+}
+
+/// Checks 44 and 45: 127 nodes, V 128, T 8,192 and all but the end and the
+/// exit related; with 43,536 bytes also the longest file.
+pub fn full_relation() -> Yard {
+    // 63 actions, all 1, summed, multiplied and repeated by turns.
+    let mut repeated = Shape::Action(1);
+    for i in 0..62 {
+        repeated = match i % 3 {
+            0 => Shape::sum(repeated, Shape::Action(1)),
+            1 => Shape::product(Shape::Action(1), repeated),
+            _ => Shape::star(repeated, Shape::Action(1)),
+        };
+    }
+    let mut labelled = downwards(127, 127);
+    let mut v = 2;
+    while labelled.len() < 8192 {
+        labelled.insert(step(v, 1, v), 1);
+        v += 1;
+    }
+    // Those are inside the bodies of vertex 1's loops, which have to be above.
+    for to in 1..=127 {
+        labelled.insert(step(1, 1, to), to as u8 + 1);
+    }
+    yard(&Shape::star(repeated, Shape::Deadlock), 128, 127, labelled)
+}
+
+/// Checks 33 to 35: thousands of loops, each with a body of `tail` vertices
+/// that are followed by all of the loops and don't lead back.
+pub fn thousands_of_loops() -> Yard {
+    loops_with_a_tail(48, 40, 63)
+}
+
+fn loops_with_a_tail(actions: u8, tail: usize, starts: usize) -> Yard {
+    let mut labelled = Labelled::new();
+    // Vertices 1 to `tail` branch to lower ones by some actions and have
+    // entries of level 1 to themselves by the others.
+    for v in 1..=tail {
+        for action in 1..=actions {
+            labelled.insert(step(v, action, v), 1);
+        }
+        for to in 1..v {
+            let action = ((v + to) % actions as usize) as u8 + 1;
+            labelled.remove(&step(v, action, v));
+            labelled.insert(step(v, action, to), 0);
+        }
+    }
+    // Above them: at each vertex and level an entry to itself and one to the
+    // tail, while there is room for it.
+    let top = tail + starts;
+    for v in tail + 1..=top {
+        for action in 1..=actions {
+            labelled.insert(step(v, action, v), action + 1);
+        }
+        if v > tail + 1 {
+            labelled.insert(step(v, 1, v - 1), 0);
+        }
+    }
+    let with_tail: Vec<Transition> = labelled
+        .keys()
+        .copied()
+        .filter(|t| t.from > tail && t.from == t.to)
+        .collect();
+    for t in with_tail {
+        if labelled.len() < 8192 {
+            labelled.insert(step(t.from, t.action, tail), t.action + 1);
+        }
+    }
+    yard(&forever(actions), top + 1, top, labelled)
+}
+
+/// Most loops: each of 127 vertices goes round by itself at 62 or 63 levels.
+pub fn most_loops() -> Yard {
+    rounds(63, 127)
+}
+
+fn rounds(actions: u8, top: usize) -> Yard {
+    let mut labelled = Labelled::new();
+    for v in 1..=top {
+        for action in 1..=actions {
+            labelled.insert(step(v, action, v), action.wrapping_mul(4) | 1);
+        }
+        if v > 1 {
+            labelled.remove(&step(v, 1, v));
+            labelled.insert(step(v, 1, v - 1), 0);
+        }
+    }
+    yard(&forever(actions), top + 1, top, labelled)
+}
+
+/// Longest bodies: a branch path through all vertices to vertex 1, which has
+/// as many loops as fit, all of them round the whole path.
+pub fn longest_body() -> Yard {
+    path(63, 127, 3)
+}
+
+fn path(actions: u8, top: usize, entries_an_action: usize) -> Yard {
+    let mut labelled = Labelled::new();
+    for v in 2..=top {
+        labelled.insert(step(v, 1, v - 1), 0);
+        for action in 2..=actions {
+            labelled.insert(step(v, action, v), 1);
+        }
+    }
+    let mut level = 1;
+    for action in 1..=actions {
+        for back in 0..entries_an_action {
+            level += 1;
+            labelled.insert(step(1, action, (top - back).max(1)), level);
+        }
+    }
+    yard(&forever(actions), top + 1, top, labelled)
+}
+
+/// Layers in which every vertex has every action of its layer to every vertex
+/// of the next; no loops.
+pub fn layers(depth: usize, width: usize, actions: u8) -> Yard {
+    let one = || Shape::sum_of_actions(actions);
+    let shape = (1..depth).fold(one(), |after, _| Shape::product(one(), after));
+    let mut labelled = Labelled::new();
+    let at = |layer: usize, i: usize| {
+        if layer == 0 {
+            0
+        } else {
+            1 + (layer - 1) * width + i
+        }
+    };
+    // The top layer is the start alone.
+    for layer in 1..=depth {
+        for from in 0..if layer == depth { 1 } else { width } {
+            for to in 0..if layer == 1 { 1 } else { width } {
+                for action in 1..=actions {
+                    labelled.insert(step(at(layer, from), action, at(layer - 1, to)), 0);
+                }
+            }
+        }
+    }
+    let start = at(depth, 0);
+    yard(&shape, start + 1, start, labelled)
+}
+
+/// Stars in stars: 127 nodes, levels up to 63, the expression's own chart.
+pub fn deepest_nest() -> Yard {
+    let mut shape = Shape::Action(1);
+    for i in 0..63u8 {
+        shape = Shape::star(shape, Shape::Action(i % 5 + 1));
+    }
+    let expression = expressions::post_order(&shape);
+    let nodes = read_nodes(&expression).expect("a well-formed expression");
+    let own = expression_chart(&nodes);
+    let labels = super::labels::by_refined_rules(&nodes, &own);
+    let (chart, new) = super::charts::reached_part(&own);
+    let kept = own
+        .transitions
+        .iter()
+        .zip(labels)
+        .filter(|(t, _)| new[t.from].is_some());
+    let pairs = relations::greatest(&own, &chart);
+    Yard {
+        expression,
+        labelling: kept.map(|(_, label)| label).collect(),
+        chart: chart.bytes(),
+        relation: relations::bytes(&own, &pairs),
+    }
+}
+
+/// All named files, with their names.
+pub fn all() -> Vec<(&'static str, Yard)> {
+    vec![
+        ("many vertices", many_vertices()),
+        ("thousands of loops", thousands_of_loops()),
+        ("most loops", most_loops()),
+        ("full relation", full_relation()),
+        ("longest body", longest_body()),
+        ("wide layers", layers(11, 12, 5)),
+        ("deepest nest", deepest_nest()),
+    ]
+}
+
+/// One of these families, mostly smaller.
+pub(super) fn some(rng: &mut Rng) -> Yard {
+    if rng.percent(25) {
+        return match rng.below(7) {
+            0 => many_vertices(),
+            1 => thousands_of_loops(),
+            2 => most_loops(),
+            3 => full_relation(),
+            4 => longest_body(),
+            5 => layers(11, 12, 5),
+            _ => deepest_nest(),
+        };
+    }
+    match rng.below(5) {
+        0 => {
+            let top = rng.between(2, 40);
+            let entries = rng.between(1, top);
+            yard(&forever(1), top + 1, top, downwards(top, entries))
+        }
+        1 => {
+            let (tail, starts) = (rng.between(2, 12), rng.between(1, 12));
+            loops_with_a_tail(rng.between(2, 20) as u8, tail, starts)
+        }
+        2 => rounds(rng.between(2, 40) as u8, rng.between(2, 30)),
+        3 => path(
+            rng.between(1, 12) as u8,
+            rng.between(3, 40),
+            rng.between(1, 3),
+        ),
+        _ => layers(
+            rng.between(2, 6),
+            rng.between(2, 8),
+            rng.between(1, 4) as u8,
+        ),
+    }
+}

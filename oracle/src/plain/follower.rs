@@ -1,0 +1,149 @@
+//! The follower over a chart, by value and lent, and the published rules'
+//! follower on expressions.
+use super::chart::Chart;
+use super::expression::{steps, tree, Expr, Node, Target};
+use crate::{Answer, NOT_POSSIBLE, TAKEN};
+use std::collections::BTreeSet;
+use std::rc::Rc;
+
+/// A set of vertices, bits as in a relation row.
+pub type State = [u8; 16];
+
+/// The start alone. A refused restart (20, 21) hands back the empty set.
+pub fn restart(chart: &[u8]) -> (Answer, State) {
+    match Chart::read(chart) {
+        Ok(chart) => {
+            let set = BTreeSet::from([chart.start]);
+            (said(&chart, &set, TAKEN), state_of(&set))
+        }
+        Err(refusal) => (refusal, [0; 16]),
+    }
+}
+
+/// An event. Refused (20, 21, 53) or not possible, the set is handed back as
+/// it came.
+pub fn event(chart: &[u8], state: State, event: u8) -> (Answer, State) {
+    match followed(chart, state, event) {
+        Ok(answer) => answer,
+        Err(refusal) => (refusal, state),
+    }
+}
+
+fn followed(chart: &[u8], state: State, event: u8) -> Result<(Answer, State), Answer> {
+    let chart = Chart::read(chart)?;
+    let set: BTreeSet<usize> = (0..128)
+        .filter(|v| state[v / 8] & (1 << (v % 8)) != 0)
+        .collect();
+    if set.is_empty() || set.iter().any(|v| *v >= chart.vertices) {
+        return Err(Answer::new(53, 0, 0, 0));
+    }
+    let targets: BTreeSet<usize> = chart
+        .transitions
+        .iter()
+        .filter(|t| set.contains(&t.from) && t.action == event)
+        .map(|t| t.to)
+        .collect();
+    if targets.is_empty() {
+        return Ok((said(&chart, &set, NOT_POSSIBLE), state));
+    }
+    Ok((said(&chart, &targets, TAKEN), state_of(&targets)))
+}
+
+fn said(chart: &Chart, set: &BTreeSet<usize>, word: u64) -> Answer {
+    let offered: BTreeSet<u8> = chart
+        .transitions
+        .iter()
+        .filter(|t| set.contains(&t.from))
+        .map(|t| t.action)
+        .collect();
+    Answer::fine(word, set.contains(&0) as u64, offered.len() as u64)
+}
+
+fn state_of(set: &BTreeSet<usize>) -> State {
+    let mut state = [0; 16];
+    for v in set {
+        state[v / 8] |= 1 << (v % 8);
+    }
+    state
+}
+
+/// Restart on a lent state; a refusal leaves it. A state of another length
+/// than 16 bytes is refused 53, after 20 and 21.
+pub fn restart_lent(chart: &[u8], state: &mut [u8]) -> Answer {
+    let (answer, after) = restart(chart);
+    if answer.is_refusal() {
+        return answer;
+    }
+    if state.len() != 16 {
+        return Answer::new(53, 0, 0, 0);
+    }
+    state.copy_from_slice(&after);
+    answer
+}
+
+/// An event on a lent state; a refusal leaves it.
+pub fn event_lent(chart: &[u8], state: &mut [u8], action: u8) -> Answer {
+    // A state of another length counts as one without members.
+    let before = State::try_from(&*state).unwrap_or([0; 16]);
+    let (answer, after) = event(chart, before, action);
+    if !answer.is_refusal() {
+        state.copy_from_slice(&after);
+    }
+    answer
+}
+
+/// The follower that the published rules give: its members are expressions
+/// and the end, its transitions those that the rules derive.
+#[derive(Clone, Debug)]
+pub struct RulesFollower {
+    root: Rc<Expr>,
+    /// A set: no member twice.
+    members: Vec<Target>,
+}
+
+impl RulesFollower {
+    /// At a fresh start.
+    pub fn new(nodes: &[Node]) -> RulesFollower {
+        let root = tree(nodes).erased();
+        RulesFollower {
+            members: vec![Target::Expr(root.clone())],
+            root,
+        }
+    }
+
+    pub fn restart(&mut self) -> Answer {
+        self.members = vec![Target::Expr(self.root.clone())];
+        self.said(TAKEN)
+    }
+
+    pub fn event(&mut self, event: u8) -> Answer {
+        if self.members.is_empty() {
+            return Answer::new(53, 0, 0, 0);
+        }
+        let mut targets: Vec<Target> = Vec::new();
+        for (action, target) in self.steps() {
+            if action == event && !targets.contains(&target) {
+                targets.push(target);
+            }
+        }
+        if targets.is_empty() {
+            return self.said(NOT_POSSIBLE);
+        }
+        self.members = targets;
+        self.said(TAKEN)
+    }
+
+    fn steps(&self) -> Vec<(u8, Target)> {
+        let steps_of = |member: &Target| match member {
+            Target::End => Vec::new(),
+            Target::Expr(e) => steps(e),
+        };
+        self.members.iter().flat_map(steps_of).collect()
+    }
+
+    fn said(&self, word: u64) -> Answer {
+        let offered: BTreeSet<u8> = self.steps().into_iter().map(|(action, _)| action).collect();
+        let ended = self.members.contains(&Target::End);
+        Answer::fine(word, ended as u64, offered.len() as u64)
+    }
+}

@@ -1,0 +1,51 @@
+//! What the tests share.
+#![allow(dead_code)]
+use oracle::gen::Yard;
+use oracle::plain::{Chart, Transition};
+use oracle::{fast, gen, plain, Answer};
+
+/// Document 01's file G.
+pub fn g() -> Yard {
+    let mut relation = vec![0; 64];
+    relation[0] = 0x01;
+    relation[48] = 0x02;
+    Yard {
+        expression: vec![1, 1, 0, 0, 1, 2, 0, 0, 4, 0, 0, 1],
+        chart: vec![2, 1, 2, 0, 1, 1, 1, 0, 1, 2, 0, 0],
+        labelling: vec![1, 0],
+        relation,
+    }
+}
+
+/// Both checkers' one answer; says file, answers and seed where they differ.
+pub fn both(file: &[u8], origin: &dyn std::fmt::Display) -> Answer {
+    let (one, other) = (plain::check(file), fast::check(file));
+    assert!(
+        one == other,
+        "{origin}: plain {one}, fast {other}\nfile {}",
+        gen::hex(file)
+    );
+    one
+}
+
+/// How many files a test takes. ORACLE_FILES is a percentage of the usual:
+/// 1000 makes a run ten times as long.
+pub fn files(usual: u64) -> u64 {
+    match std::env::var("ORACLE_FILES") {
+        Ok(percent) => usual * percent.parse::<u64>().expect("ORACLE_FILES is a number") / 100,
+        Err(_) => usual,
+    }
+}
+
+/// A chart of these transitions (from, action, to).
+pub fn chart(vertices: usize, start: usize, steps: &[(usize, u8, usize)]) -> Chart {
+    let steps = steps
+        .iter()
+        .map(|&(from, action, to)| Transition { from, action, to });
+    gen::charts::chart_of(vertices, start, steps.collect())
+}
+
+/// The chart of an accepted file.
+pub fn chart_of(yard: &Yard) -> Chart {
+    Chart::read(&yard.chart).expect("an accepted file's chart")
+}

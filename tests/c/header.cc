@@ -1,0 +1,9 @@
+// The header in C++: the names are C's.
+#include "sequence.h"
+
+int main()
+{
+    const seq_numbers checked = seq_check(nullptr, 0);
+    const seq_numbers written = seq_write_chart(nullptr, 0, nullptr, 0);
+    return checked.n == 2 && checked.p == 1 && written.n == 10 && written.p == 0 ? 0 : 1;
+}

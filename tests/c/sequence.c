@@ -1,0 +1,447 @@
+/* Runs the C library: document 01's starred cases of the check and of the expression's chart, empty
+ * slices, the limits, and lent buffers of each length that matters. Prints what is wrong and, last,
+ * the count of cases; exits with 1 where something is wrong. */
+#define _DEFAULT_SOURCE
+#include "sequence.h"
+
+#include <inttypes.h>
+#include <stdio.h>
+#include <stdlib.h>
+#include <string.h>
+#include <sys/mman.h>
+#include <unistd.h>
+
+static unsigned cases;
+static unsigned wrong;
+
+/* Slices that end where memory ends: a byte read or written past one stops the program. */
+
+static uint8_t *file_end;
+static uint8_t *out_end;
+
+static uint8_t *end_of_memory(size_t longest)
+{
+    size_t page = (size_t)sysconf(_SC_PAGESIZE);
+    size_t size = (longest + page - 1) / page * page;
+    uint8_t *start = mmap(NULL, size + page, PROT_READ | PROT_WRITE, MAP_PRIVATE | MAP_ANONYMOUS, -1, 0);
+    if (start == MAP_FAILED || mprotect(start + size, page, PROT_NONE) != 0) {
+        perror("mmap");
+        exit(2);
+    }
+    return start + size;
+}
+
+static uint8_t *copy_before(uint8_t *end, const uint8_t *bytes, size_t len)
+{
+    uint8_t *slice = end - len;
+    memcpy(slice, bytes, len);
+    return slice;
+}
+
+/* One call, and what is wrong with it. */
+
+static void print_numbers(const char *whose, seq_numbers numbers)
+{
+    printf("  %s %" PRIu64 " %" PRIu64 " %" PRIu64 " %" PRIu64 "\n", whose, numbers.n, numbers.p, numbers.q,
+           numbers.r);
+}
+
+static void expect_numbers(const char *name, seq_numbers got, seq_numbers want)
+{
+    if (got.n != want.n || got.p != want.p || got.q != want.q || got.r != want.r) {
+        wrong++;
+        printf("wrong: %s\n", name);
+        print_numbers("answers", got);
+        print_numbers("wanted ", want);
+    }
+}
+
+static void expect_bytes(const char *name, const uint8_t *got, const uint8_t *want, size_t len)
+{
+    for (size_t i = 0; i < len; i++) {
+        if (got[i] != want[i]) {
+            wrong++;
+            printf("wrong: %s\n  byte %zu is %02X, wanted %02X\n", name, i, got[i], want[i]);
+            return;
+        }
+    }
+}
+
+static void expect_check(const char *name, const uint8_t *file, size_t len, seq_numbers want)
+{
+    const uint8_t *lent = copy_before(file_end, file, len);
+    cases++;
+    expect_numbers(name, seq_check(lent, len), want);
+    expect_bytes(name, lent, file, len);
+}
+
+/* Lends bytes that differ from the chart's at each place, and holds the answer and every byte of nodes
+ * and output to what is wanted. */
+static void expect_chart(const char *name, const uint8_t *nodes, size_t nodes_len, size_t lent, seq_numbers want,
+                         const uint8_t *chart)
+{
+    static uint8_t stood[SEQ_LONGEST_CHART + 16];
+    static uint8_t left[SEQ_LONGEST_CHART + 16];
+    size_t written = want.n == 0 ? (size_t)want.p : 0;
+    for (size_t i = 0; i < lent; i++) {
+        stood[i] = (uint8_t)(i < written ? 255u - chart[i] : 0xC0 + i % 31);
+        left[i] = i < written ? chart[i] : stood[i];
+    }
+    const uint8_t *given = copy_before(file_end, nodes, nodes_len);
+    uint8_t *out = copy_before(out_end, stood, lent);
+    cases++;
+    expect_numbers(name, seq_write_chart(given, nodes_len, out, lent), want);
+    expect_bytes(name, out, left, lent);
+    expect_bytes(name, given, nodes, nodes_len);
+}
+
+static seq_numbers numbers(uint64_t n, uint64_t p, uint64_t q, uint64_t r)
+{
+    return (seq_numbers){n, p, q, r};
+}
+
+/* Yard files. */
+
+typedef struct body {
+    size_t len;
+    uint8_t bytes[4 + 4 * 8193];
+} body;
+
+typedef struct yard {
+    body bodies[4];
+} yard;
+
+enum { NODES, CHART, LABELS, RELATION };
+
+static uint8_t file_bytes[65536];
+
+static void put(body *body, uint8_t byte)
+{
+    body->bytes[body->len++] = byte;
+}
+
+static void put_four(body *body, unsigned a, unsigned b, unsigned c, unsigned d)
+{
+    put(body, (uint8_t)a);
+    put(body, (uint8_t)b);
+    put(body, (uint8_t)c);
+    put(body, (uint8_t)d);
+}
+
+static void put_row(body *body, uint8_t first, uint8_t others)
+{
+    put(body, first);
+    for (int i = 1; i < 16; i++)
+        put(body, others);
+}
+
+static size_t write_file(const yard *yard)
+{
+    size_t at = 0;
+    for (int k = 0; k < 4; k++) {
+        const body *body = &yard->bodies[k];
+        file_bytes[at++] = (uint8_t)(body->len % 256);
+        file_bytes[at++] = (uint8_t)(body->len / 256);
+        file_bytes[at++] = (uint8_t)(k + 1);
+        file_bytes[at++] = 0;
+        memcpy(file_bytes + at, body->bytes, body->len);
+        at += body->len;
+    }
+    return at;
+}
+
+static void expect_yard(const char *name, const yard *yard, seq_numbers want)
+{
+    size_t len = write_file(yard);
+    expect_check(name, file_bytes, len, want);
+}
+
+/* Document 01's file G. */
+
+#define NONE 0, 0, 0, 0, 0, 0, 0, 0, 0, 0, 0, 0, 0, 0, 0
+static const uint8_t G[106] = {
+    0x0C, 0x00, 0x01, 0x00, 0x01, 0x01, 0x00, 0x00, 0x01, 0x02, 0x00, 0x00, 0x04, 0x00, 0x00, 0x01,
+    0x0C, 0x00, 0x02, 0x00, 0x02, 0x01, 0x02, 0x00, 0x01, 0x01, 0x01, 0x00, 0x01, 0x02, 0x00, 0x00,
+    0x02, 0x00, 0x03, 0x00, 0x01, 0x00,
+    0x40, 0x00, 0x04, 0x00,
+    0x01, NONE, 0x00, NONE, 0x00, NONE, 0x02, NONE,
+};
+static const uint8_t G_NODES[12] = {1, 1, 0, 0, 1, 2, 0, 0, 4, 0, 0, 1};
+static const uint8_t G_CHART[20] = {4, 3, 4, 0, 1, 1, 3, 0, 2, 2, 0, 0, 3, 1, 3, 0, 3, 2, 0, 0};
+
+enum { G_ROOT = 12, G_LABELS = 36, G_ROW_0 = 42, G_ROW_3 = 42 + 48 };
+
+static void expect_g(const char *name, size_t at, const uint8_t *bytes, size_t len, seq_numbers want)
+{
+    memcpy(file_bytes, G, sizeof G);
+    memcpy(file_bytes + at, bytes, len);
+    expect_check(name, file_bytes, sizeof G, want);
+}
+
+/* G's bodies, as a yard to change. */
+static void g_yard(yard *yard)
+{
+    static const size_t starts[4] = {4, 20, G_LABELS, G_ROW_0};
+    static const size_t lens[4] = {12, 12, 2, 64};
+    for (int k = 0; k < 4; k++) {
+        yard->bodies[k].len = lens[k];
+        memcpy(yard->bodies[k].bytes, G + starts[k], lens[k]);
+    }
+}
+
+static void starred_checks(void)
+{
+    expect_check("G", G, sizeof G, numbers(0, 2, 2, 1));
+    memcpy(file_bytes, G, sizeof G);
+    file_bytes[sizeof G] = 0;
+    expect_check("G and a byte", file_bytes, sizeof G + 1, numbers(4, 106, 0, 0));
+    expect_g("labels 00 00", G_LABELS, (uint8_t[]){0, 0}, 2, numbers(32, 1, 0, 0));
+    expect_g("labels 01 01", G_LABELS, (uint8_t[]){1, 1}, 2, numbers(34, 1, 1, 0));
+    expect_g("labels 01 02", G_LABELS, (uint8_t[]){1, 2}, 2, numbers(33, 1, 2, 0));
+    expect_g("row 3 cleared", G_ROW_3, (uint8_t[]){0}, 1, numbers(42, 3, 1, 0));
+    expect_g("row 0 cleared", G_ROW_0, (uint8_t[]){0}, 1, numbers(44, 3, 1, 3));
+    expect_g("row 0 is 03", G_ROW_0, (uint8_t[]){3}, 1, numbers(43, 0, 1, 0));
+    expect_g("root 04 00 00 00", G_ROOT, (uint8_t[]){4, 0, 0, 0}, 4, numbers(12, 0, 2, 0));
+}
+
+static void equal_levels_inside_each_other(void)
+{
+    static yard yard;
+    static const uint8_t chart[20] = {3, 1, 4, 0, 1, 1, 2, 0, 1, 3, 0, 0, 2, 1, 2, 0, 2, 2, 1, 0};
+    g_yard(&yard);
+    yard.bodies[CHART].len = 20;
+    memcpy(yard.bodies[CHART].bytes, chart, 20);
+    yard.bodies[LABELS].len = 4;
+    memcpy(yard.bodies[LABELS].bytes, (uint8_t[]){1, 0, 1, 0}, 4);
+    expect_yard("labels 1 0 1 0", &yard, numbers(35, 1, 1, 2));
+    memcpy(yard.bodies[LABELS].bytes, (uint8_t[]){2, 0, 1, 0}, 4);
+    expect_yard("labels 2 0 1 0 against G's expression", &yard, numbers(44, 3, 1, 2));
+}
+
+/* Every beginning of G is refused by 2, at the record in which it ends. */
+static void beginnings_of_g(void)
+{
+    for (size_t len = 0; len < sizeof G; len++) {
+        uint64_t record = len < 16 ? 1 : len < 32 ? 2 : len < 38 ? 3 : 4;
+        expect_check("a beginning of G", G, len, numbers(2, record, 0, 0));
+    }
+}
+
+static void empty_slices(void)
+{
+    uint8_t byte = 0xAB;
+    cases += 5;
+    expect_numbers("no file", seq_check(NULL, 0), numbers(2, 1, 0, 0));
+    expect_numbers("a file of no bytes", seq_check(&byte, 0), numbers(2, 1, 0, 0));
+    expect_numbers("no nodes, no output", seq_write_chart(NULL, 0, NULL, 0), numbers(10, 0, 0, 0));
+    expect_numbers("no nodes", seq_write_chart(NULL, 0, &byte, 1), numbers(10, 0, 0, 0));
+    expect_numbers("no output", seq_write_chart(G_NODES, 12, NULL, 0), numbers(54, 20, 0, 0));
+    expect_bytes("no nodes", &byte, (uint8_t[]){0xAB}, 1);
+}
+
+/* Limits. */
+
+/* 63 actions 1, summed, repeated until deadlock: 127 nodes. */
+static void put_ones_for_ever(body *nodes)
+{
+    put_four(nodes, 1, 1, 0, 0);
+    for (unsigned last = 0; last < 124; last += 2) {
+        put_four(nodes, 1, 1, 0, 0);
+        put_four(nodes, 2, 0, last, last + 1);
+    }
+    put_four(nodes, 0, 0, 0, 0);
+    put_four(nodes, 4, 0, 124, 125);
+}
+
+/* V 128, T 8,192, action 1 alone: branches from each vertex to all lower ones, entries of level 1
+ * from 2 to 65 each to itself, and from vertex 1 an entry of its own level to every vertex. */
+static void put_full_chart(body *chart, body *labels)
+{
+    put_four(chart, 128, 127, 8192 % 256, 8192 / 256);
+    for (unsigned to = 1; to < 128; to++) {
+        put_four(chart, 1, 1, to, 0);
+        put(labels, (uint8_t)(to + 1));
+    }
+    for (unsigned from = 2; from < 128; from++) {
+        for (unsigned to = 1; to < from; to++) {
+            put_four(chart, from, 1, to, 0);
+            put(labels, 0);
+        }
+        if (from <= 65) {
+            put_four(chart, from, 1, from, 0);
+            put(labels, 1);
+        }
+    }
+}
+
+/* All but the ends and the deadlock related. */
+static void put_full_relation(body *relation)
+{
+    for (int row = 0; row < 128; row++) {
+        if (row == 0 || row == 126)
+            put_row(relation, 0, 0);
+        else
+            put_row(relation, 0xFE, 0xFF);
+    }
+}
+
+static void longest_file(void)
+{
+    static yard yard;
+    put_ones_for_ever(&yard.bodies[NODES]);
+    put_full_chart(&yard.bodies[CHART], &yard.bodies[LABELS]);
+    put_full_relation(&yard.bodies[RELATION]);
+    size_t len = write_file(&yard);
+    cases++;
+    if (len != SEQ_LONGEST_FILE) {
+        wrong++;
+        printf("wrong: the longest file has %zu bytes\n", len);
+    }
+    expect_check("43,536 bytes: 127 nodes, V 128, T 8,192", file_bytes, len, numbers(0, 128, 8192, 191));
+    file_bytes[len] = 0;
+    expect_check("43,537 bytes", file_bytes, len + 1, numbers(1, 0, 0, 0));
+    expect_check("43,535 bytes", file_bytes, len - 1, numbers(2, 4, 0, 0));
+    memset(file_bytes, 0xFF, len + 1);
+    expect_check("43,537 bytes FF", file_bytes, len + 1, numbers(1, 0, 0, 0));
+    expect_check("43,536 bytes FF", file_bytes, len, numbers(3, 1, 65535, 0));
+    /* The last byte of the relation is read, and the last label. */
+    yard.bodies[RELATION].bytes[127 * 16 + 15] = 0x7F;
+    expect_yard("start's bit cleared", &yard, numbers(42, 127, 127, 0));
+    yard.bodies[LABELS].bytes[8191] = 255;
+    expect_yard("last label 255", &yard, numbers(35, 1, 128, 127));
+}
+
+static void past_the_limits_of_a_chart(void)
+{
+    static yard yard;
+    g_yard(&yard);
+    body *chart = &yard.bodies[CHART];
+    chart->len = 0;
+    yard.bodies[LABELS].len = 0;
+    put_full_chart(chart, &yard.bodies[LABELS]);
+    chart->bytes[0] = 129;
+    expect_yard("V 129", &yard, numbers(20, 0, 0, 0));
+    chart->bytes[0] = 128;
+    chart->bytes[1] = 128;
+    expect_yard("start 128 of 128", &yard, numbers(20, 0, 0, 0));
+    chart->bytes[1] = 127;
+    chart->bytes[2] = 1;
+    expect_yard("T 8,193 of 8,192", &yard, numbers(20, 0, 0, 0));
+    put_four(chart, 127, 2, 1, 0);
+    expect_yard("T 8,193", &yard, numbers(20, 0, 0, 0));
+}
+
+static void past_the_limits_of_an_expression(void)
+{
+    static yard yard;
+    static uint8_t nodes[512];
+    g_yard(&yard);
+    yard.bodies[NODES].len = 0;
+    put_ones_for_ever(&yard.bodies[NODES]);
+    put_four(&yard.bodies[NODES], 1, 1, 0, 0);
+    memcpy(nodes, yard.bodies[NODES].bytes, 512);
+    expect_yard("128 nodes", &yard, numbers(10, 512, 0, 0));
+    expect_chart("128 nodes", nodes, 512, 600, numbers(10, 512, 0, 0), NULL);
+    expect_chart("507 bytes", nodes, 507, 600, numbers(10, 507, 0, 0), NULL);
+    expect_chart("127 nodes that are no expression", nodes + 4, 508, 600, numbers(11, 1, 0, 0), NULL);
+}
+
+/* Lent buffers. */
+
+static void expect_chart_in_each_buffer(const char *name, const body *nodes, const body *chart)
+{
+    size_t len = chart->len;
+    seq_numbers needed = numbers(54, len, 0, 0);
+    seq_numbers written = numbers(0, len, 0, 0);
+    expect_chart(name, nodes->bytes, nodes->len, 0, needed, chart->bytes);
+    expect_chart(name, nodes->bytes, nodes->len, 1, needed, chart->bytes);
+    expect_chart(name, nodes->bytes, nodes->len, len - 1, needed, chart->bytes);
+    expect_chart(name, nodes->bytes, nodes->len, len, written, chart->bytes);
+    expect_chart(name, nodes->bytes, nodes->len, len + 1, written, chart->bytes);
+    expect_chart(name, nodes->bytes, nodes->len, SEQ_LONGEST_CHART, written, chart->bytes);
+}
+
+static void chart_of_g(void)
+{
+    static body nodes, chart;
+    nodes.len = sizeof G_NODES;
+    memcpy(nodes.bytes, G_NODES, sizeof G_NODES);
+    chart.len = sizeof G_CHART;
+    memcpy(chart.bytes, G_CHART, sizeof G_CHART);
+    expect_chart_in_each_buffer("G's expression chart", &nodes, &chart);
+}
+
+static void chart_of_one_node(void)
+{
+    static body deadlock, deadlock_chart, action, action_chart;
+    put_four(&deadlock, 0, 0, 0, 0);
+    put_four(&deadlock_chart, 2, 1, 0, 0);
+    expect_chart_in_each_buffer("deadlock", &deadlock, &deadlock_chart);
+    put_four(&action, 1, 255, 0, 0);
+    put_four(&action_chart, 2, 1, 1, 0);
+    put_four(&action_chart, 1, 255, 0, 0);
+    expect_chart_in_each_buffer("action 255", &action, &action_chart);
+}
+
+/* 127 nodes: the sums of the first 2, 3, .. 64 of 64 different actions. All lead to the end. */
+static void chart_of_sums(void)
+{
+    static body nodes, chart;
+    put_four(&nodes, 1, 1, 0, 0);
+    put_four(&chart, 128, 127, 2143 % 256, 2143 / 256);
+    put_four(&chart, 1, 1, 0, 0);
+    for (unsigned i = 1; i < 64; i++) {
+        put_four(&nodes, 1, i + 1, 0, 0);
+        put_four(&nodes, 2, 0, 2 * i - 2, 2 * i - 1);
+        put_four(&chart, 2 * i, i + 1, 0, 0);
+        for (unsigned action = 1; action <= i + 1; action++)
+            put_four(&chart, 2 * i + 1, action, 0, 0);
+    }
+    expect_chart_in_each_buffer("sums of 64 actions, 127 nodes", &nodes, &chart);
+}
+
+/* 127 nodes of which each but the deadlock has the one transition to the star: a + a counts once. */
+static void chart_of_ones_for_ever(void)
+{
+    static body nodes, chart;
+    put_ones_for_ever(&nodes);
+    put_four(&chart, 128, 127, 126, 0);
+    for (unsigned vertex = 1; vertex < 128; vertex++)
+        if (vertex != 126)
+            put_four(&chart, vertex, 1, 127, 0);
+    expect_chart_in_each_buffer("a + a .. for ever, 127 nodes", &nodes, &chart);
+}
+
+static void refused_nodes(void)
+{
+    static const uint8_t twice[12] = {1, 1, 0, 0, 1, 2, 0, 0, 4, 0, 0, 0};
+    static const uint8_t no_kind[4] = {5, 0, 0, 0};
+    static const uint8_t own_operand[8] = {1, 1, 0, 0, 2, 0, 0, 1};
+    expect_chart("root 04 00 00 00", twice, 12, 40, numbers(12, 0, 2, 0), NULL);
+    expect_chart("root 04 00 00 00, no room", twice, 12, 3, numbers(12, 0, 2, 0), NULL);
+    expect_chart("kind 5", no_kind, 4, 40, numbers(11, 0, 0, 0), NULL);
+    expect_chart("a node that is its own operand", own_operand, 8, 40, numbers(11, 1, 0, 0), NULL);
+    for (size_t len = 0; len < sizeof G_NODES; len++)
+        if (len % 4 != 0)
+            expect_chart("a part of a node", G_NODES, len, 40, numbers(10, len, 0, 0), NULL);
+}
+
+int main(void)
+{
+    file_end = end_of_memory(sizeof file_bytes);
+    out_end = end_of_memory(SEQ_LONGEST_CHART + 16);
+    starred_checks();
+    equal_levels_inside_each_other();
+    beginnings_of_g();
+    empty_slices();
+    longest_file();
+    past_the_limits_of_a_chart();
+    past_the_limits_of_an_expression();
+    chart_of_g();
+    chart_of_one_node();
+    chart_of_sums();
+    chart_of_ones_for_ever();
+    refused_nodes();
+    printf("C: %u cases, %u wrong\n", cases, wrong);
+    return wrong == 0 ? 0 : 1;
+}
