@@ -5,11 +5,11 @@ ghost use lib.ListN.{length};
 ghost use Rattle.io.specs.Counts.{Counts};
 
 // Document 01's G, record by record: the expression a * b, and its chart of one loop.
-pub const NODES: [u8; 12] = [1, 1, 0, 0, 1, 2, 0, 0, 4, 0, 0, 1];
+pub(crate) const NODES: [u8; 12] = [1, 1, 0, 0, 1, 2, 0, 0, 4, 0, 0, 1];
 
-pub const CHART: [u8; 12] = [2, 1, 2, 0, 1, 1, 1, 0, 1, 2, 0, 0];
+pub(crate) const CHART: [u8; 12] = [2, 1, 2, 0, 1, 1, 1, 0, 1, 2, 0, 0];
 
-pub const LABELS: [u8; 2] = [1, 0];
+pub(crate) const LABELS: [u8; 2] = [1, 0];
 
 fn least(a: usize, b: usize) -> usize
     ensures { λ r. ⌜ (r ≤ a) × (r ≤ b) ⌝ }
@@ -40,7 +40,7 @@ fn append_record(file: &mut [u8], at: usize, kind: u8, body: &[u8]) -> usize
 }
 
 // The file of four bodies; answers its length.
-pub fn write_file(
+pub(crate) fn write_file(
     file: &mut [u8],
     nodes: &[u8],
     chart: &[u8],
@@ -56,19 +56,19 @@ pub fn write_file(
 }
 
 // Stores a byte where there is one.
-pub fn put(bytes: &mut [u8], at: usize, value: u8) {
+pub(crate) fn put(bytes: &mut [u8], at: usize, value: u8) {
     if at < bytes.len() {
         bytes[at] = value;
     }
 }
 
 // Relates a vertex of the expression's chart to some of the chart's vertices 0 to 7, one bit for each.
-pub fn relate(relation: &mut [u8], vertex: u8, columns: u8) {
+pub(crate) fn relate(relation: &mut [u8], vertex: u8, columns: u8) {
     put(relation, vertex as usize * 16, columns);
 }
 
 // G's relation: the ends, and the starts.
-pub fn relation() -> [u8; 64]
+pub(crate) fn relation() -> [u8; 64]
     ensures { λ r. ⌜ 64 ≡ length r ⌝ }
 {
     let mut relation = [0u8; 64];

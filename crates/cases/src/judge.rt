@@ -4,12 +4,12 @@ use report::Numbers;
 use std::num::wrapping_add_u64;
 
 // How many cases were run, and how many answered as expected.
-pub struct Tally {
+pub(crate) struct Tally {
     pub run: u64,
     pub passed: u64,
 }
 
-pub fn accepted(vertices: u64, transitions: u64, loops: u64) -> Numbers {
+pub(crate) fn accepted(vertices: u64, transitions: u64, loops: u64) -> Numbers {
     Numbers {
         n: 0,
         p: vertices,
@@ -18,7 +18,7 @@ pub fn accepted(vertices: u64, transitions: u64, loops: u64) -> Numbers {
     }
 }
 
-pub fn refused(n: u64, p: u64, q: u64, r: u64) -> Numbers {
+pub(crate) fn refused(n: u64, p: u64, q: u64, r: u64) -> Numbers {
     Numbers { n, p, q, r }
 }
 
@@ -55,7 +55,7 @@ fn counted(tally: Tally, as_expected: bool) -> Tally {
     }
 }
 
-pub fn judge(tally: Tally, name: &[u8], file: &[u8], expected: Numbers) -> Tally {
+pub(crate) fn judge(tally: Tally, name: &[u8], file: &[u8], expected: Numbers) -> Tally {
     let answer = report::verdict_numbers(verdict::check(file));
     io::write_all(STDOUT_FILENO, name);
     io::write_all(STDOUT_FILENO, b": ");
@@ -71,7 +71,7 @@ pub fn judge(tally: Tally, name: &[u8], file: &[u8], expected: Numbers) -> Tally
     counted(tally, as_expected)
 }
 
-pub fn write_tally(tally: Tally) {
+pub(crate) fn write_tally(tally: Tally) {
     io::print_decimal(STDOUT_FILENO, tally.passed);
     io::write_all(STDOUT_FILENO, b" of ");
     io::print_decimal(STDOUT_FILENO, tally.run);

@@ -100,7 +100,7 @@ fn write_relation(relation: &mut [u8]) {
 }
 
 // Answers the file's length.
-pub fn write_largest(file: &mut [u8]) -> usize
+pub(crate) fn write_largest(file: &mut [u8]) -> usize
     ensures { λ r. ⌜ Counts r (now (file .exit)) ⌝ }
 {
     let mut nodes = [0u8; 508];
