@@ -1,6 +1,6 @@
 -- The checks 10, 11 and 12: what each answer says, and that a body that passes is a tree.
 use Prim.Native.Nat.{ℕ, zero, suc, _+_, _-_, _%_, _<_, _≤_}
-use mathlib.Core.Path.{_≡_, refl, sym, _∙_, subst}
+use mathlib.Core.Path.{_≡_, refl, sym, _∙_, ap, subst}
 use mathlib.Core.Bool.{Bool, true, false, cond, _&&_, not, false≢true}
 use mathlib.Core.Logic.{⊎-elim}
 use mathlib.Core.List.{List}
@@ -14,7 +14,9 @@ use Rattle.report.specs.declared.Place.the-variants as place
 use Rattle.report.specs.declared.Stage.{Stage}
 use Rattle.report.specs.declared.Stage.the-variants.{Passed, Refused}
 use Rattle.theory.specs.Nodes.{Op, op-sum, op-product, op-star, Node, bad, dead, leaf, bin, Tree}
+use Rattle.theory.specs.Least.{Least}
 use Rattle.theory.specs.Tests as tests
+use Rattle.theory.proofs.Search.{least-one}
 use Rattle.theory.proofs.Tests.{lowest-stops}
 use Rattle.expression.specs.Table.{kindOf, actionOf, leftOf, rightOf, branch, parse, node, isGood, count, lowest, lengthOk, nodeOk, malformed, usesOf, usedOnce, misused, checkOf, Sized, NodeAt, WellFormed, Checked, passed, ill-sized, malformed-at, misused-at}
 
@@ -175,6 +177,36 @@ module _ (s : List ℕ) where
         le-ltb _ _ (all-pass (nodeOk s) (count s) (w .good)),
         le-ltb _ _ (all-pass (usedOnce s) (count s - 1) (λ j h. eq-eqb _ 1 (w .once j (omega arith)))),
       )
+
+-- NO TWO ANSWERS: what an answer says holds of no other
+lowest-bad : (s : List ℕ) {p : ℕ} → isGood (node s p) ≡ false → ((k : ℕ) → k < p → isGood (node s k) ≡ true) → Least (λ k. isGood (node s k) ≡ false) p
+lowest-bad s e low = record { holds = e; lowest = λ k h q. false≢true (sym q ∙ low k h) }
+
+lowest-uses : (s : List ℕ) {p : ℕ} → (usesOf s p ≡ 1 → ⊥) → ((j : ℕ) → j < p → usesOf s j ≡ 1) → Least (λ j. usesOf s j ≡ 1 → ⊥) p
+lowest-uses s e low = record { holds = e; lowest = λ j h q. q (low j h) }
+
+module _ {s : List ℕ} where
+  one-check : {a b : Stage} → Checked s a → Checked s b → a ≡ b
+  one-check (passed w) (passed v) = refl
+  one-check (passed w) (ill-sized h) = absurd (h (w .sized))
+  one-check (passed w) (malformed-at p z h e low) = absurd (false≢true (sym e ∙ w .good p h))
+  one-check (passed w) (misused-at p z g h e low) = absurd (e (w .once p h))
+  one-check (ill-sized i) (passed v) = absurd (i (v .sized))
+  one-check (ill-sized i) (ill-sized h) = refl
+  one-check (ill-sized i) (malformed-at p z h e low) = absurd (i z)
+  one-check (ill-sized i) (misused-at p z g h e low) = absurd (i z)
+  one-check (malformed-at q y i d below) (passed v) = absurd (false≢true (sym d ∙ v .good q i))
+  one-check (malformed-at q y i d below) (ill-sized h) = absurd (h y)
+  one-check (malformed-at q y i d below) (malformed-at p z h e low) = ap (λ (x : ℕ). Refused (place.Node x)) (least-one (lowest-bad s d below) (lowest-bad s e low))
+  one-check (malformed-at q y i d below) (misused-at p z g h e low) = absurd (false≢true (sym d ∙ g q i))
+  one-check (misused-at q y f i d below) (passed v) = absurd (d (v .once q i))
+  one-check (misused-at q y f i d below) (ill-sized h) = absurd (h y)
+  one-check (misused-at q y f i d below) (malformed-at p z h e low) = absurd (false≢true (sym e ∙ f p h))
+  one-check (misused-at q y f i d below) (misused-at p z g h e low) = ap (λ (x : ℕ). Refused (place.NodeUses x (usesOf s x))) (least-one (lowest-uses s d below) (lowest-uses s e low))
+
+  -- so that what an answer says is said exactly where it is the answer
+  pub checked-is : {a : Stage} → Checked s a → a ≡ checkOf s
+  checked-is c = one-check c (checked s)
 
 pub tree : (s : List ℕ) → WellFormed s → Tree (node s) (count s)
 tree s w = record { low = λ k o l r h e. node-low s k o l r e; once = w .once }
