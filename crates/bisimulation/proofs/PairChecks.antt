@@ -78,7 +78,7 @@ decides-ends u v = go (eqb u 0) (eqb v 0) (decides-eqb u 0) (decides-eqb v 0)
     go false true d e = ((λ h. absurd (false≢true h)), (λ h. absurd (not-so d refl (h .1 (e .0 refl)))))
     go false false d e = ((λ h. ((λ q. absurd (not-so d refl q)), (λ q. absurd (not-so e refl q)))), (λ h. refl))
 
-passed-refused : {s : Stage} {p : Place} → s ≡ Passed → ¬ (s ≡ Refused p)
+pub passed-refused : {s : Stage} {p : Place} → s ≡ Passed → ¬ (s ≡ Refused p)
 passed-refused e f = let z : _≡_ {A = ℕ} 0 1 = cc in omega arith
 
 module _ (body : List ℕ) {relation : List ℕ} {columns u v : ℕ} (e : columns ≡ verticesOf body) (C : FirstColumn relation u columns v) where

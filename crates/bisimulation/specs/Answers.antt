@@ -10,9 +10,10 @@ use Rattle.report.specs.declared.Place.{Place}
 use Rattle.report.specs.declared.Place.the-variants.{PairNoVertex}
 use Rattle.report.specs.declared.Stage.{Stage}
 use Rattle.report.specs.declared.Stage.the-variants.{Passed, Refused}
-use Rattle.chart.specs.Bodies.{verticesOf, actionOf, toOf, WellFormed}
+use Rattle.bits.specs.Words.{Has}
+use Rattle.chart.specs.Bodies.{verticesOf, startOf, actionOf, toOf, WellFormed}
 use Rattle.chart.specs.Leaving.{Rows}
-use Rattle.bisimulation.specs.Relations.{indexedOf, relatedTest, answered}
+use Rattle.bisimulation.specs.Relations.{indexedOf, relatedTest, answered, relationOf}
 
 -- expression vertex u is related to chart vertex v
 abbrev pub Related : List ℕ → ℕ → ℕ → Type 0
@@ -30,6 +31,10 @@ pub record Fits (expression body relation : List ℕ) : Type 0 where
 -- 43 to 45 pass for one pair
 abbrev pub Passes : (expression body relation : List ℕ) → ℕ → ℕ → Type 0
 Passes expression body relation u v = PairPasses (indexedOf expression) (indexedOf body) (Related relation) u v
+
+-- outside the rows of the set (lo, hi), 43 to 45 pass
+abbrev pub Clear : (expression body relation : List ℕ) → ℕ → ℕ → Type 0
+Clear expression body relation lo hi = (u v : ℕ) → Related relation u v → ¬ Has lo hi u → v < verticesOf body → Passes expression body relation u v
 
 -- some outcome of a pair that fails stands for this answer
 abbrev pub Fails : (expression body relation : List ℕ) → ℕ → ℕ → Stage → Type 0
@@ -53,6 +58,11 @@ CheckedAnswer expression body relation s = (o : RelationOutcome) × RelationChec
 pub record StrayAnswer (body relation : List ℕ) (s : Stage) : Type 0 where
   pub passed : s ≡ Passed → (u v : ℕ) → ¬ Stray body relation u v
   pub refused : (p : Place) → s ≡ Refused p → (u v : ℕ) × FirstPair (Stray body relation) u v × (s ≡ Refused (PairNoVertex u v))
+
+-- what 40 to 42 answer, of every expression's chart with so many vertices and this start
+pub record OpeningAnswer (vertices start : ℕ) (body relation : List ℕ) (s : Stage) : Type 0 where
+  pub refused : (p : Place) → s ≡ Refused p → (e : List ℕ) → verticesOf e ≡ vertices → startOf e ≡ start → s ≡ relationOf e body relation
+  pub passed : s ≡ Passed → (e : List ℕ) → verticesOf e ≡ vertices → startOf e ≡ start → Fits e body relation × Related relation (startOf e) (startOf body)
 
 -- from column v on, r is the first of row u with a bit, or 128 where there is none
 pub record FirstColumn (relation : List ℕ) (u v r : ℕ) : Type 0 where

@@ -2,3 +2,4 @@
 pub mod Relations
 pub mod Answers
 pub mod Meaning
+pub mod Suspects

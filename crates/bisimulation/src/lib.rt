@@ -1,17 +1,35 @@
 // Relations between the expression's chart and the file's chart: the checks 40 to 45.
+mod clearing;
+mod halves;
+mod tables;
+
+use bits::byte;
+use bits::down;
+use bits::has;
+use bits::holds;
+use bits::lowest;
+use clearing::gather;
+use halves::half_row;
+use report::Place;
+use report::Stage;
+use tables::acting;
+use tables::columns;
+use tables::spread_rows;
+use tables::used;
+use tables::users;
 ghost use mathlib.Core.Path.{_≡_};
 ghost use mathlib.Core.Bool.{cond};
+ghost use mathlib.Core.List.{List};
 ghost use Prim.Native.Nat.{ℕ, _+_, _*_, _≤_, _<_};
-ghost use lib.ListN.{length};
+ghost use lib.ListN.{length, getD};
 ghost use Rattle.theory.specs.Tests.{Decides};
 ghost use Rattle.chart.specs.Bodies.{verticesOf, startOf, actionOf, toOf};
 ghost use Rattle.chart.specs.Checks.{checkOf};
+ghost use Rattle.chart.specs.Leaving.{Rows};
+ghost use Rattle.chart.specs.Numbered.{Numbered};
 ghost use Rattle.bisimulation.specs.Relations.{relatedTest, relationOf};
-ghost use Rattle.bisimulation.specs.Answers.{Related, StrayAnswer, PairAnswer, RowAnswer, CheckedAnswer, FirstColumn, turnedTest, Turned, Part, FirstNotBelow, MatchBetween, RowsLong, FirstUnmatched, Prepared};
-use bits::byte;
-use bits::has;
-use report::Place;
-use report::Stage;
+ghost use Rattle.bisimulation.specs.Answers.{Related, StrayAnswer, PairAnswer, RowAnswer, CheckedAnswer, FirstColumn, turnedTest, Turned, Part, FirstNotBelow, MatchBetween, RowsLong, FirstUnmatched, Prepared, Clear, OpeningAnswer};
+ghost use Rattle.bisimulation.specs.Suspects.{Steps};
 
 // Whether expression vertex u is related to chart vertex v.
 fn related(relation: &[u8], u: usize, v: usize) -> bool
@@ -41,10 +59,11 @@ fn bit_from(relation: &[u8], u: usize, v: usize) -> usize
 {
     let mut w = v;
     while w < 128 {
-        if related(relation, u, w) {
-            return w;
+        let rest = down(half_row(relation, u, w / 64), w % 64);
+        if rest != 0 {
+            return w + lowest(rest);
         }
-        w += 1;
+        w += 64 - w % 64;
     }
     w
 }
@@ -204,6 +223,26 @@ fn row(
     Stage::Passed
 }
 
+// 43, 44 and 45 of the pairs of row u, where it is in the set (lo, hi): every other row passes.
+fn suspect_row(
+    expression: &[u8],
+    left: &[usize; 129],
+    body: &[u8],
+    right: &[usize; 129],
+    relation: &[u8],
+    u: usize,
+    lo: u64,
+    hi: u64,
+) -> Stage
+    requires { ⌜ Prepared (now expression) (now left) (now body) (now right) (now relation) × Clear (now expression) (now body) (now relation) lo hi × (u < verticesOf (now expression)) ⌝ }
+    ensures { λ r. ⌜ RowAnswer (now (expression .entry)) (now (body .entry)) (now (relation .entry)) u r ⌝ }
+{
+    if !holds(lo, hi, u) {
+        return Stage::Passed;
+    }
+    row(expression, left, body, right, relation, u)
+}
+
 // 43, 44 and 45 of every pair, by row: also at vertices that nothing reaches.
 fn pairs(
     expression: &[u8],
@@ -211,14 +250,16 @@ fn pairs(
     body: &[u8],
     right: &[usize; 129],
     relation: &[u8],
+    lo: u64,
+    hi: u64,
 ) -> Stage
-    requires { ⌜ Prepared (now expression) (now left) (now body) (now right) (now relation) × Related (now relation) (startOf (now expression)) (startOf (now body)) ⌝ }
+    requires { ⌜ Prepared (now expression) (now left) (now body) (now right) (now relation) × Related (now relation) (startOf (now expression)) (startOf (now body)) × Clear (now expression) (now body) (now relation) lo hi ⌝ }
     ensures { λ r. ⌜ CheckedAnswer (now (expression .entry)) (now (body .entry)) (now (relation .entry)) r ⌝ }
 {
     let rows = byte(expression, 0);
     let mut u: usize = 0;
     while u < rows {
-        let answer = row(expression, left, body, right, relation, u);
+        let answer = suspect_row(expression, left, body, right, relation, u, lo, hi);
         let Stage::Passed = answer else {
             return answer;
         };
@@ -227,25 +268,58 @@ fn pairs(
     Stage::Passed
 }
 
-// What 40 to 45 say of a relation between the expression's chart and the file's chart, both as chart bodies.
-pub fn check(expression: &[u8], body: &[u8], relation: &[u8]) -> Stage
-    requires { ⌜ (checkOf (now expression) ≡ Stage.Passed) × (checkOf (now body) ≡ Stage.Passed) ⌝ }
-    ensures { λ r. ⌜ r ≡ relationOf (now (expression .entry)) (now (body .entry)) (now (relation .entry)) ⌝ }
+// 40, 41 and 42, which ask only for the number of rows and the start.
+pub fn opening(vertices: usize, start: usize, body: &[u8], relation: &[u8]) -> Stage
+    requires { ⌜ (checkOf (now body) ≡ Stage.Passed) × (vertices ≤ 128) × (start < vertices) ⌝ }
+    ensures { λ r. ⌜ OpeningAnswer vertices start (now (body .entry)) (now (relation .entry)) r ⌝ }
 {
-    let rows = byte(expression, 0);
-    if relation.len() != 16 * rows {
+    if relation.len() != 16 * vertices {
         return Stage::Refused(Place::RelationLength(relation.len()));
     }
-    let answer = strays(body, relation, rows);
+    let answer = strays(body, relation, vertices);
     let Stage::Passed = answer else {
         return answer;
     };
-    let p = byte(expression, 1);
     let q = byte(body, 1);
-    if !related(relation, p, q) {
-        return Stage::Refused(Place::PairStarts(p, q));
+    if !related(relation, start, q) {
+        return Stage::Refused(Place::PairStarts(start, q));
     }
+    Stage::Passed
+}
+
+// The rows that 43 to 45 may refuse, as a set of two words: in every other row each pair passes. The expression's chart is given
+// by the numbers of its steps, the body's also by its rows.
+pub fn suspects(
+    keys: &[usize; 128],
+    words: &[u64; 128],
+    m: usize,
+    vertices: usize,
+    body: &[u8],
+    rows: &[usize; 129],
+    relation: &[u8],
+) -> [u64; 2]
+    requires { ⌜ (checkOf (now body) ≡ Stage.Passed) × Rows (now body) (now rows) × (length (now relation) ≡ 16 * vertices) × (vertices ≤ 128) × Steps (now keys) (now words) m ⌝ }
+    ensures { λ r. ⌜ (length r ≡ 2) × ((e : List ℕ) → verticesOf e ≡ vertices → Numbered e (now (keys .entry)) (now (words .entry)) m → Clear e (now (body .entry)) (now (relation .entry)) (getD r 0 0) (getD r 1 0)) ⌝ }
+{
+    let columns = columns(relation, vertices);
+    let into = spread_rows(relation, vertices, keys, m);
+    let acting = acting(keys, m);
+    let users = users(words, vertices);
+    let used = used(words, vertices);
+    gather(&columns, &into, &acting, &users, used, body, rows)
+}
+
+// What 40 to 45 say of a relation between the expression's chart and the file's chart, both as chart bodies. Only the rows of
+// the set (lo, hi) are searched.
+pub fn check(expression: &[u8], body: &[u8], relation: &[u8], lo: u64, hi: u64) -> Stage
+    requires { ⌜ (checkOf (now expression) ≡ Stage.Passed) × (checkOf (now body) ≡ Stage.Passed) × Clear (now expression) (now body) (now relation) lo hi ⌝ }
+    ensures { λ r. ⌜ r ≡ relationOf (now (expression .entry)) (now (body .entry)) (now (relation .entry)) ⌝ }
+{
+    let answer = opening(byte(expression, 0), byte(expression, 1), body, relation);
+    let Stage::Passed = answer else {
+        return answer;
+    };
     let left = chart::rows(expression);
     let right = chart::rows(body);
-    pairs(expression, &left, body, &right, relation)
+    pairs(expression, &left, body, &right, relation, lo, hi)
 }

@@ -1,2 +1,6 @@
 -- The laws.
 pub mod Powers
+pub mod Words
+pub mod Sets
+pub mod Unions
+pub mod Packed

@@ -1,2 +1,5 @@
 -- The definitions.
 pub mod Bits
+pub mod Words
+pub mod Unions
+pub mod Packed

@@ -17,27 +17,27 @@ use Rattle.chart.specs.Bodies.{countOf, keyOf, keyAt, HeaderFits, Transi
 use Rattle.chart.specs.Checks.{_and_, headerOk, fitsAt, aboveAt, okAt, firstBad, checkOf}
 
 -- booleans
-left : (a b : Bool) → (a and b) ≡ true → a ≡ true
+pub left : (a b : Bool) → (a and b) ≡ true → a ≡ true
 unfolding _and_
 left true b h = refl
 left false b h = h
 
-right : (a b : Bool) → (a and b) ≡ true → b ≡ true
+pub right : (a b : Bool) → (a and b) ≡ true → b ≡ true
 unfolding _and_
 right true b h = h
 right false true h = refl
 right false false h = h
 
-both : {a b : Bool} → a ≡ true → b ≡ true → (a and b) ≡ true
+pub both : {a b : Bool} → a ≡ true → b ≡ true → (a and b) ≡ true
 unfolding _and_
 both {a} {b} p q = rw (p, q)
 
 -- a test is true or not
-told : (x : Bool) {A : Type 0} → (x ≡ true → A) → (x ≡ false → A) → A
+pub told : (x : Bool) {A : Type 0} → (x ≡ true → A) → (x ≡ false → A) → A
 told true f g = f refl
 told false f g = g refl
 
-differ : {A : Type 0} (x : Bool) → x ≡ true → x ≡ false → A
+pub differ : {A : Type 0} (x : Bool) → x ≡ true → x ≡ false → A
 differ x p q = let z : _≡_ {A = ℕ} 0 1 = absurd-of (sym p ∙ q) in absurd (omega arith)
   where
     absurd-of : true ≡ false → _≡_ {A = ℕ} 0 1

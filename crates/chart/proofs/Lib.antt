@@ -1,7 +1,8 @@
 -- The laws.
+pub mod Words
 pub mod Checks
 pub mod Order
 pub mod Parts
-pub mod Queues
+pub mod Searches
 pub mod Marking
 pub mod Relations

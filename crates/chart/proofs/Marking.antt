@@ -1,132 +1,161 @@
--- The reachability: what its loop keeps, and what the marks say when the queue is done.
-use mathlib.Core.Path.{_≡_, sym, _∙_, subst}
+-- The reachability: the kept transitions as a table, the marked vertices as a set, and what the marks of the search's answer say.
+use mathlib.Core.Path.{_≡_, refl, sym, _∙_, subst}
+use mathlib.Core.Bool.{Bool, true, false}
 use mathlib.Core.List.{List}
 use mathlib.Core.Logic.{by-cases, ⊎-elim, _⊎_, inl, inr, _↔_}
-use Prim.Native.Nat.{ℕ, _+_, _≤_, _<_}
+use mir.Val.{boolByte}
+use Prim.Native.Nat.{ℕ, zero, suc, _+_, _*_, _≤_, _<_}
 use native.Mathlib.Decide.{ℕ-discrete, decLt}
 use native.Mathlib.Omega.{arith}
 use borrow.Author.Count.{below-more}
-use lib.ListN.{length, getD, replicate, List·getD-eq-default}
-use lib.Seq.{ext-getD}
+use lib.ListN.{length, getD, set, replicate, length-set, length-replicate, List·getD-eq-default}
+use lib.Seq.{ext-getD, getD-set-same, getD-set-other}
 use Rattle.theory.specs.Paths.{Edges, Star, here, step, Avoid}
-use Rattle.theory.proofs.Paths.{star-snoc, star-map}
-use Rattle.chart.specs.Bodies.{verticesOf, countOf, toOf, WellFormed}
-use Rattle.chart.specs.Leaving.{Rows}
+use Rattle.theory.proofs.Paths.{star-map}
+use Rattle.bits.specs.Words.{Has, Inserted}
+use Rattle.bits.proofs.Sets.{none}
+use Rattle.chart.specs.Bodies.{verticesOf, countOf, fromOf, toOf, WellFormed}
 use Rattle.chart.specs.Reached.{Kept, FromMarked, Reached}
-use Rattle.chart.specs.Queue.{Queued, Grown, Entered}
-use Rattle.chart.proofs.Order.{low-high, at-mid, between}
-use Rattle.chart.proofs.Queues.{blank, grown-same, grown-as, grown-then}
+use Rattle.chart.specs.Sets.{Leads, Closed}
+use Rattle.chart.specs.Tabled.{Tabled, InsertedIf, Marks}
 
--- what the loop keeps: marked is only what is reached, and what the vertices before head lead to is marked
-pub record Walk (E : Edges) (begin m q : List ℕ) (head tail : ℕ) : Type 0 where
-  pub queued : Queued m q tail
-  pub order : head ≤ tail
-  pub begun : (w : ℕ) → getD begin w 0 ≡ 1 → getD m w 0 ≡ 1
-  pub sound : (w : ℕ) → getD m w 0 ≡ 1 → FromMarked E begin w
-  pub closed : (k : ℕ) → k < head → (w : ℕ) → E (getD q k 0) w → getD m w 0 ≡ 1
+-- a list of zeros
+pub blank : (n w : ℕ) → getD (replicate {A = ℕ} n 0) w 0 ≡ 0
+blank zero w = refl
+blank (suc n) zero = refl
+blank (suc n) (suc w) = blank n w
 
--- at the begin the marked vertices are those of the queue
-pub walk-begin : {E : Edges} {m q : List ℕ} {tail : ℕ} → Queued m q tail → Walk E m m q 0 tail
-walk-begin Q = record { queued = Q; order = omega arith; begun = λ w e. e; sound = λ w e. (w, e, here); closed = λ k l. absurd (omega arith) }
-
--- one vertex's turn
-pub walk-on : {E : Edges} {begin m q m′ q′ : List ℕ} {head tail tail′ : ℕ} → Walk E begin m q head tail → head < tail → Grown (E (getD q head 0)) m q tail m′ q′ tail′ → Walk E begin m′ q′ (head + 1) tail′
-walk-on {E} {begin} {m} {q} {m′} {q′} {head} {tail} W h G = record {
-  queued = G .queued;
-  order = omega (arith, G .longer);
-  begun = λ w e. G .old w (W .begun w e);
-  sound = λ w e. ⊎-elim (W .sound w) (λ x. onward (W .sound (getD q head 0) (W .queued .entries head h)) x) (G .new w e);
-  closed = below-more (λ (k : ℕ). (w : ℕ) → E (getD q′ k 0) w → getD m′ w 0 ≡ 1) head
-      (λ k l w x. G .old w (W .closed k l w (subst (λ (u : ℕ). E u w) (G .kept k (omega arith)) x)))
-      (λ w x. G .all w (subst (λ (u : ℕ). E u w) (G .kept head h) x));
-}
-  where
-    onward : {u w : ℕ} → FromMarked E begin u → E u w → FromMarked E begin w
-    onward (v, e, p) x = (v, e, star-snoc p x)
-
--- the end: every marked vertex had its turn
-pub walk-end : {body keep begin m q : List ℕ} {stop head tail : ℕ} → Walk (Avoid stop (Kept body keep)) begin m q head tail → tail ≤ head → Reached body keep stop begin m
-walk-end {body} {keep} {begin} {m} {q} {stop} W h = record {
-  long = W .queued .m-long;
-  bits = W .queued .bits;
-  exactly = λ w. (W .sound w, λ (u, e, p). all (W .begun u e) p);
-}
-  where
-    all : {u w : ℕ} → getD m u 0 ≡ 1 → Star (Avoid stop (Kept body keep)) u w → getD m w 0 ≡ 1
-    all e here = e
-    all {u} e (step {w = x} s p) =
-        let (k, l, z) = W .queued .listed u e in
-        all (W .closed k (omega arith) x (subst (λ (v : ℕ). Avoid stop (Kept body keep) v x) (sym z) s)) p
-
--- one more transition, between lo and hi
-pub visit-more : {body keep m m′ m″ q q′ q″ : List ℕ} {lo i t t′ t″ flag w : ℕ} → lo ≤ i → flag ≡ getD keep i 0 → w ≡ toOf body i
-    → Grown (Entered body keep lo i) m q t m′ q′ t′ → Grown (λ (x : ℕ). (flag ≡ 1) × (x ≡ w)) m′ q′ t′ m″ q″ t″ → Grown (Entered body keep lo (i + 1)) m q t m″ q″ t″
-visit-more {body} {keep} {lo = lo} {i = i} {flag = flag} {w = w} l f g G H =
-    grown-then G H
-    (λ x e. record { at = e .at; from = e .from; below = omega (arith, e .below); enters = e .enters; kept = e .kept })
-    (λ x e. record { at = i; from = l; below = omega arith; enters = sym g ∙ sym (e .1); kept = sym f ∙ e .0 })
-    cases
-  where
-    cases : (x : ℕ) → Entered body keep lo (i + 1) x → Entered body keep lo i x ⊎ ((flag ≡ 1) × (x ≡ w))
-    cases x e =
-        by-cases (ℕ-discrete (e .at) i)
-        (λ p. inr (f ∙ subst (λ (j : ℕ). getD keep j 0 ≡ 1) p (e .kept), sym (subst (λ (j : ℕ). toOf body j ≡ x) p (e .enters)) ∙ sym g))
-        (λ p. inl (record { at = e .at; from = e .from; below = omega (arith, e .below); enters = e .enters; kept = e .kept }))
-
-pub visit-none : {body keep m q : List ℕ} {lo t : ℕ} → Queued m q t → Grown (Entered body keep lo lo) m q t m q t
-visit-none Q = grown-same Q (λ w e. absurd (omega (arith, e .from, e .below)))
-
--- the vertices below u that are marked in begin
-abbrev pub Seeded : List ℕ → ℕ → ℕ → Type 0
-Seeded begin u x = (x < u) × (getD begin x 0 ≡ 1)
-
-pub seed-more : (begin : List ℕ) {m m′ m″ q q′ q″ : List ℕ} {t t′ t″ flag : ℕ} (u : ℕ) → flag ≡ getD begin u 0
-    → Grown (Seeded begin u) m q t m′ q′ t′ → Grown (λ (x : ℕ). (flag ≡ 1) × (x ≡ u)) m′ q′ t′ m″ q″ t″ → Grown (Seeded begin (u + 1)) m q t m″ q″ t″
-seed-more begin u f G H =
-    grown-then G H
-    (λ x e. (omega (arith, e .0), e .1))
-    (λ x e. (omega (arith, e .1), rw (e .1) (sym f ∙ e .0)))
-    (λ x e. by-cases (ℕ-discrete x u) (λ p. inr (f ∙ subst (λ (j : ℕ). getD begin j 0 ≡ 1) p (e .1), p)) (λ p. inl (omega (arith, e .0), e .1)))
-
-pub seed-all : (begin : List ℕ) {m q m′ q′ : List ℕ} {t t′ : ℕ} → length begin ≡ 128 → (u : ℕ) → 128 ≤ u → Grown (Seeded begin u) m q t m′ q′ t′ → Grown (λ (x : ℕ). getD begin x 0 ≡ 1) m q t m′ q′ t′
-seed-all begin n u h G =
-    grown-as (λ x e. e .1)
-    (λ x e. (by-cases (decLt x u) (λ l. l) (λ l. absurd (omega (arith, List·getD-eq-default begin 0 {n = x} (omega arith)))), e))
-    G
-
--- the transitions of one vertex, as its rows have them
-module _ {body rows : List ℕ} (R : Rows body rows) (u : ℕ) (l : u < 128) where
-  pub row-order : getD rows u 0 ≤ getD rows (u + 1) 0
-  row-order = low-high (R .split u (omega arith)) (R .split (u + 1) (omega arith))
-
-  pub row-high : getD rows (u + 1) 0 ≤ countOf body
-  row-high = R .split (u + 1) (omega arith) .within
-
-  pub row-kept : {keep : List ℕ} {w : ℕ} → Entered body keep (getD rows u 0) (getD rows (u + 1) 0) w → Kept body keep u w
-  row-kept e = record {
-    at = e .at;
-    within = omega (arith, e .below, row-high);
-    leaves = at-mid (R .split u (omega arith)) (R .split (u + 1) (omega arith)) (e .at) (e .from) (e .below);
-    enters = e .enters;
-    kept = e .kept;
-  }
-
-  pub kept-row : {keep : List ℕ} {w : ℕ} → Kept body keep u w → Entered body keep (getD rows u 0) (getD rows (u + 1) 0) w
-  kept-row e =
-      let p = between (R .split u (omega arith)) (R .split (u + 1) (omega arith)) (e .at) (e .within) (e .leaves) in
-      record { at = e .at; from = p .0; below = p .1; enters = e .enters; kept = e .kept }
-
--- what is reached depends on the vertices that are marked at the begin, and on nothing else of their bytes
-pub reached-begin : {body keep m m′ r : List ℕ} {stop : ℕ} → ((w : ℕ) → (getD m w 0 ≡ 1) ↔ (getD m′ w 0 ≡ 1)) → Reached body keep stop m r → Reached body keep stop m′ r
-reached-begin h R = record {
-  long = R .long;
-  bits = R .bits;
-  exactly = λ w. (λ e. let (u, x, p) = R .exactly w .0 e in (u, h u .0 x, p), λ (u, x, p). R .exactly w .1 (u, h u .1 x, p));
+-- an insertion that is made, and one that is not
+pub inserted-yes : {A : Type 0} {a r : List ℕ} {v w : ℕ} → A → Inserted a v w r → InsertedIf A a v w r
+inserted-yes i I = record {
+  long = I .long;
+  exactly = λ x y l m. (
+    λ h. ⊎-elim (λ e. inl e) (λ e. inr (i, e .0, e .1)) (I .exactly x y l m .0 h),
+    λ h. I .exactly x y l m .1 (⊎-elim (λ e. inl e) (λ e. inr (e .1, e .2)) h),
+  );
 }
 
--- a queue that was empty holds just what it was given
-pub seeded : (n : ℕ) {P : ℕ → Type 0} {q m′ q′ : List ℕ} {t : ℕ} → Grown P (replicate n 0) q 0 m′ q′ t → (w : ℕ) → (getD m′ w 0 ≡ 1) ↔ P w
-seeded n G w = (λ e. ⊎-elim (λ x. absurd (omega (arith, blank n w))) (λ x. x) (G .new w e), G .all w)
+pub inserted-no : {A : Type 0} (a : List ℕ) (v w : ℕ) → ¬ A → InsertedIf A a v w a
+inserted-no a v w n = record { long = refl; exactly = λ x y l m. (λ h. inl h, λ h. ⊎-elim (λ e. e) (λ e. absurd (n (e .0))) h) }
+
+-- the table of no relation, of one with a pair more, and of the same one
+pub tabled-none : {E : Edges} (n : ℕ) → ((x y : ℕ) → ¬ E x y) → Tabled n E (replicate (2 * n) 0)
+tabled-none n f = record {
+  long = length-replicate {A = ℕ} (2 * n) 0;
+  exactly = λ x y l m. (λ h. absurd (none y (rw (blank (2 * n) (2 * x), blank (2 * n) (2 * x + 1)) at h)), λ e. absurd (f x y e));
+}
+
+pub tabled-more : {A : Type 0} {E F : Edges} {n v w : ℕ} {a r : List ℕ} → InsertedIf A a v w r → ((x y : ℕ) → F x y ↔ (E x y ⊎ (A × (x ≡ v) × (y ≡ w)))) → Tabled n E a → Tabled n F r
+tabled-more I f T = record {
+  long = I .long ∙ T .long;
+  exactly = λ x y l m.
+      let i = I .exactly x y (omega (arith, T .long)) m in
+      let t = T .exactly x y l m in (
+        λ h. f x y .1 (⊎-elim (λ e. inl (t .0 e)) (λ e. inr e) (i .0 h)),
+        λ e. i .1 (⊎-elim (λ h. inl (t .1 h)) (λ h. inr h) (f x y .0 e)),
+      );
+}
+
+pub tabled-as : {E F : Edges} {n : ℕ} {a : List ℕ} → ((x y : ℕ) → x < n → y < 128 → E x y ↔ F x y) → Tabled n E a → Tabled n F a
+tabled-as f T = record { long = T .long; exactly = λ x y l m. (λ h. f x y l m .0 (T .exactly x y l m .0 h), λ e. T .exactly x y l m .1 (f x y l m .1 e)) }
+
+-- a kept transition before transition i
+abbrev pub KeptBelow : List ℕ → List ℕ → ℕ → Edges
+KeptBelow body keep i u w = (e : Kept body keep u w) × (e .at < i)
+
+pub kept-more : (body keep : List ℕ) (i : ℕ) {flag v t : ℕ} → i < countOf body → flag ≡ getD keep i 0 → v ≡ fromOf body i → t ≡ toOf body i
+    → (u w : ℕ) → KeptBelow body keep (i + 1) u w ↔ (KeptBelow body keep i u w ⊎ ((flag ≡ 1) × (u ≡ v) × (w ≡ t)))
+kept-more body keep i {flag} {v} {t} h f g k u w = (
+  λ (e, l). by-cases (ℕ-discrete (e .at) i) (λ p. inr (here-kept e p)) (λ p. inl (e, omega arith)),
+  λ s. ⊎-elim
+      (λ (e, l). (e, omega arith))
+      (λ (p, q, r). (record { at = i; within = h; leaves = sym g ∙ sym q; enters = sym k ∙ sym r; kept = sym f ∙ p }, omega arith))
+      s,
+)
+  where
+    here-kept : (e : Kept body keep u w) → e .at ≡ i → (flag ≡ 1) × (u ≡ v) × (w ≡ t)
+    here-kept e p = (
+      f ∙ subst (λ (j : ℕ). getD keep j 0 ≡ 1) p (e .kept),
+      sym (subst (λ (j : ℕ). fromOf body j ≡ u) p (e .leaves)) ∙ sym g,
+      sym (subst (λ (j : ℕ). toOf body j ≡ w) p (e .enters)) ∙ sym k,
+    )
+
+pub kept-whole : {body keep : List ℕ} {i : ℕ} → countOf body ≤ i → (u w : ℕ) → u < 128 → w < 128 → KeptBelow body keep i u w ↔ Kept body keep u w
+kept-whole h u w l m = (λ e. e .0, λ e. (e, omega (arith, e .within)))
+
+-- a vertex of a well-formed body's transition has a set in the table
+pub from-low : {body : List ℕ} → WellFormed body → (i : ℕ) → i < countOf body → fromOf body i < 128
+from-low W i h = omega (arith, W .each i h .from-high, W .header .vertices-high)
+
+pub to-low : {body : List ℕ} → WellFormed body → (i : ℕ) → i < countOf body → toOf body i < 128
+to-low W i h = omega (arith, W .each i h .to-high, W .header .vertices-high)
+
+-- the marked vertices below i, in set 0
+abbrev pub MarkedBelow : List ℕ → ℕ → Edges
+MarkedBelow marks i x y = (x ≡ 0) × (y < i) × (getD marks y 0 ≡ 1)
+
+pub marked-more : (marks : List ℕ) {i flag : ℕ} → flag ≡ getD marks i 0 → (x y : ℕ) → MarkedBelow marks (i + 1) x y ↔ (MarkedBelow marks i x y ⊎ ((flag ≡ 1) × (x ≡ 0) × (y ≡ i)))
+marked-more marks {i} f x y = (
+  λ (z, l, e). by-cases (ℕ-discrete y i) (λ p. inr (f ∙ subst (λ (j : ℕ). getD marks j 0 ≡ 1) p e, z, p)) (λ p. inl (z, omega arith, e)),
+  λ s. ⊎-elim (λ (z, l, e). (z, omega arith, e)) (λ (e, z, p). (z, omega arith, rw p (sym f ∙ e))) s,
+)
+
+pub marked-whole : (marks : List ℕ) {i : ℕ} → 128 ≤ i → (x y : ℕ) → x < 1 → y < 128 → MarkedBelow marks i x y ↔ (getD marks y 0 ≡ 1)
+marked-whole marks h x y l m = (λ e. e .2, λ e. (omega arith, omega arith, e))
+
+-- the marks of a set: none yet, one vertex more
+pub marks-none : (lo hi : ℕ) → Marks lo hi 0 (replicate 128 0)
+marks-none lo hi = record { long = refl; bits = λ w. omega (arith, blank 128 w); exactly = λ w l. absurd (omega arith) }
+
+pub marks-more : {lo hi i : ℕ} {r : List ℕ} (b : Bool) → (b ≡ true) ↔ Has lo hi i → i < 128 → Marks lo hi i r → Marks lo hi (i + 1) (set r i (boolByte b))
+marks-more {lo} {hi} {i} {r} b B l M = record {
+  long = length-set r i (boolByte b) ∙ M .long;
+  bits = λ w. by-cases (ℕ-discrete w i) (λ e. rw (e, same) (small b)) (λ e. rw (getD-set-other r i w (boolByte b) 0 e) (M .bits w));
+  exactly = below-more (λ (w : ℕ). (getD (set r i (boolByte b)) w 0 ≡ 1) ↔ Has lo hi w) i
+      (λ w m. rw (getD-set-other r i w (boolByte b) 0 (λ e. omega arith)) (M .exactly w m))
+      (rw same (λ e. B .0 (one b e), λ h. rw (B .1 h)));
+}
+  where
+    same : getD (set r i (boolByte b)) i 0 ≡ boolByte b
+    same = getD-set-same r i (boolByte b) 0 (omega (arith, M .long))
+
+    small : (c : Bool) → boolByte c ≤ 1
+    small true = omega arith
+    small false = omega arith
+
+    one : (c : Bool) → boolByte c ≡ 1 → c ≡ true
+    one true e = refl
+    one false e = absurd (omega arith)
+
+-- what is marked is a number below 128
+marked-low : (m : List ℕ) → length m ≡ 128 → (w : ℕ) → getD m w 0 ≡ 1 → w < 128
+marked-low m n w h = by-cases (decLt w 128) (λ l. l) (λ l. absurd (omega (arith, List·getD-eq-default m 0 {n = w} (omega arith))))
+
+-- the search along the table, from the set, as marks
+pub closed-reached : {body keep marks table from to r : List ℕ} {stop : ℕ} → WellFormed body → length marks ≡ 128
+    → Tabled 128 (Kept body keep) table → Tabled 1 (λ (x y : ℕ). getD marks y 0 ≡ 1) from
+    → Closed table stop (getD from 0 0) (getD from 1 0) to → Marks (getD to 0 0) (getD to 1 0) 128 r → Reached body keep stop marks r
+closed-reached {body} {keep} {marks} {table} {from} {to} {r} {stop} W n T F C M = record {
+  long = M .long;
+  bits = M .bits;
+  exactly = λ w. (
+    λ e. let l = marked-low r (M .long) w e in let (u, m, h, p) = C .exactly w l .0 (M .exactly w l .0 e) in (u, F .exactly 0 u (omega arith) m .0 h, star-map keeps p),
+    λ (u, e, p). let m = marked-low marks n u e in let q = star-map leads p in let l = within q m in M .exactly w l .1 (C .exactly w l .1 (u, m, F .exactly 0 u (omega arith) m .1 e, q)),
+  );
+}
+  where
+    keeps : (x y : ℕ) → Avoid stop (Leads table) x y → Avoid stop (Kept body keep) x y
+    keeps x y (s, e) = (s, T .exactly x y (e .from) (e .to) .0 (e .has))
+
+    leads : (x y : ℕ) → Avoid stop (Kept body keep) x y → Avoid stop (Leads table) x y
+    leads x y (s, e) =
+        let l = subst (λ (z : ℕ). z < 128) (e .leaves) (from-low W (e .at) (e .within)) in
+        let m = subst (λ (z : ℕ). z < 128) (e .enters) (to-low W (e .at) (e .within)) in
+        (s, record { from = l; to = m; has = T .exactly x y l m .1 e })
+
+    within : {u w : ℕ} → Star (Avoid stop (Leads table)) u w → u < 128 → w < 128
+    within here l = l
+    within (step e p) l = within p (e .1 .to)
 
 -- the answer is one: two lists that say what is reached are equal
 pub reached-one : {body keep marks r s : List ℕ} {stop : ℕ} → Reached body keep stop marks r → Reached body keep stop marks s → r ≡ s

@@ -102,3 +102,11 @@ rows-all {b} {r} e R h = record {
   long = R .long;
   split = λ k l. subst (λ (m : ℕ). Split b m k (getD r k 0)) e (R .split k (omega arith));
 }
+
+-- a vertex has an entry, and a next one
+module _ {b r : List ℕ} (R : Rows b r) (u : ℕ) (l : u < 128) where
+  pub row-order : getD r u 0 ≤ getD r (u + 1) 0
+  row-order = low-high (R .split u (omega arith)) (R .split (u + 1) (omega arith))
+
+  pub row-high : getD r (u + 1) 0 ≤ countOf b
+  row-high = R .split (u + 1) (omega arith) .within

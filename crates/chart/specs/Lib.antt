@@ -3,5 +3,8 @@ pub mod Bodies
 pub mod Checks
 pub mod Leaving
 pub mod Reached
-pub mod Queue
+pub mod Tabled
+pub mod Words
 pub mod Steps
+pub mod Sets
+pub mod Numbered

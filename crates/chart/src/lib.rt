@@ -1,16 +1,21 @@
 // Chart bodies (document 01, kind 2): a header of four bytes (V, start, two bytes of T) and T transitions of four bytes.
+pub mod sets;
+
 ghost use mathlib.Core.Path.{_≡_};
 ghost use Prim.Native.Nat.{ℕ, _+_, _*_, _≤_, _<_};
 ghost use lib.ListN.{length, getD};
-ghost use Rattle.chart.specs.Bodies.{countOf, fromOf, keyOf};
-ghost use Rattle.chart.specs.Checks.{headerOk, fitsAt, okAt, checkOf};
+ghost use Rattle.chart.specs.Bodies.{countOf, fromOf};
+ghost use Rattle.chart.specs.Checks.{headerOk, checkOf};
+ghost use Rattle.chart.specs.Words.{wordOf, turnedOf, wordOk};
 ghost use Rattle.chart.specs.Leaving.{leavingAt, leavingOf, Split, Rows};
 ghost use Rattle.chart.specs.Reached.{Kept, Reached};
-ghost use Rattle.chart.specs.Queue.{Queued, Grown, Entered};
-ghost use Rattle.theory.specs.Paths.{Avoid};
+ghost use Rattle.chart.specs.Tabled.{Tabled, InsertedIf, Marks};
 use bits::byte;
+use bits::holds;
+use bits::insert;
 use report::Place;
 use report::Stage;
+use sets::closure;
 
 // T, the number of transitions that the header declares.
 pub fn count(body: &[u8]) -> usize
@@ -32,33 +37,39 @@ fn header_ok(body: &[u8]) -> bool
     (2 <= v) & (v <= 128) & (1 <= start) & (start < v) & (n <= 8192) & (body.len() == 4 + 4 * n)
 }
 
-fn fits_at(body: &[u8], i: usize) -> bool
-    requires { ⌜ 4 * i + 8 ≤ length (now body) ⌝ }
-    ensures { λ r. ⌜ r ≡ fitsAt (now (body .entry)) i ⌝ }
+// Four bytes as one number, the first lowest.
+fn joined(a: u8, b: u8, c: u8, d: u8) -> usize
+    ensures { λ r. ⌜ (r ≡ a + 256 * b + 65536 * c + 16777216 * d) × (r < 4294967296) ⌝ }
 {
-    let p = 4 * i + 4;
-    let v = byte(body, 0);
-    let from = byte(body, p);
-    (1 <= from)
-        & (from < v)
-        & (1 <= byte(body, p + 1))
-        & (byte(body, p + 2) < v)
-        & (byte(body, p + 3) == 0)
+    a as usize + 256 * (b as usize) + 65536 * (c as usize) + 16777216 * (d as usize)
 }
 
-// The transition at a byte offset as one number, in the order of charts.
-fn key_at(body: &[u8], p: usize) -> usize
-    requires { ⌜ p + 3 ≤ length (now body) ⌝ }
-    ensures { λ r. ⌜ r ≡ keyOf (now (body .entry)) p ⌝ }
+// The transition at a byte offset as one number. Where its bytes are indexed in one function, the compiler makes them one load.
+fn word_at(body: &[u8], p: usize) -> usize
+    requires { ⌜ p + 4 ≤ length (now body) ⌝ }
+    ensures { λ r. ⌜ (r ≡ wordOf (now (body .entry)) p) × (r < 4294967296) ⌝ }
 {
-    65536 * byte(body, p) + 256 * byte(body, p + 1) + byte(body, p + 2)
+    joined(body[p], body[p + 1], body[p + 2], body[p + 3])
 }
 
-fn ok_at(body: &[u8], i: usize) -> bool
-    requires { ⌜ 4 * i + 8 ≤ length (now body) ⌝ }
-    ensures { λ r. ⌜ r ≡ okAt (now (body .entry)) i ⌝ }
+// The same bytes, the first highest: the order of charts.
+fn turned(word: usize) -> usize
+    requires { ⌜ word < 4294967296 ⌝ }
+    ensures { λ r. ⌜ r ≡ turnedOf word ⌝ }
 {
-    fits_at(body, i) & ((i == 0) | (key_at(body, 4 * i) < key_at(body, 4 * i + 4)))
+    16777216 * (word % 256)
+        + 65536 * (word / 256 % 256)
+        + 256 * (word / 65536 % 256)
+        + word / 16777216
+}
+
+// 21 of a transition by its word and its key, the word turned round, after the key before it. That is 16777215 or more, so the first
+// comparison refuses a from of 0; the last refuses a last byte other than 0.
+fn word_ok(word: usize, key: usize, v: usize, before: usize) -> bool
+    requires { ⌜ v ≤ 128 ⌝ }
+    ensures { λ r. ⌜ r ≡ wordOk word key v before ⌝ }
+{
+    (before < key) & (key < 16777216 * v) & (1 <= word / 256 % 256) & (word < 65536 * v)
 }
 
 // What 20 and 21 say of a chart body.
@@ -68,12 +79,18 @@ pub fn check(body: &[u8]) -> Stage
     if !header_ok(body) {
         return Stage::Refused(Place::ChartHeader);
     }
-    let mut i: usize = 0;
-    while 4 * i + 4 < body.len() {
-        if !ok_at(body, i) {
-            return Stage::Refused(Place::Transition(i));
+    let v = byte(body, 0);
+    // just below the keys whose from is 1
+    let mut before: usize = 16777215;
+    let mut p: usize = 4;
+    while p + 4 <= body.len() {
+        let word = word_at(body, p);
+        let key = turned(word);
+        if !word_ok(word, key, v, before) {
+            return Stage::Refused(Place::Transition((p - 4) / 4));
         }
-        i += 1;
+        before = key;
+        p += 4;
     }
     Stage::Passed
 }
@@ -120,12 +137,27 @@ pub fn leaving(body: &[u8], vertex: usize) -> &[u8]
     }
 }
 
+// On from a place with only froms below v before it to another, by eights: froms do not fall.
+fn skip(body: &[u8], n: usize, v: usize, at: usize) -> usize
+    requires { ⌜ (checkOf (now body) ≡ Stage.Passed) × (n ≡ countOf (now body)) × (at ≤ n) × ((i : ℕ) → i < at → fromOf (now body) i < v) ⌝ }
+    ensures { λ r. ⌜ (r ≤ n) × ((i : ℕ) → i < r → fromOf (now (body .entry)) i < v) ⌝ }
+{
+    let mut i = at;
+    while i + 8 <= n {
+        if byte(body, 4 * (i + 7) + 4) >= v {
+            return i;
+        }
+        i += 8;
+    }
+    i
+}
+
 // Where the transitions of v begin, from a place that is not past them.
 fn past(body: &[u8], n: usize, v: usize, at: usize) -> usize
     requires { ⌜ (checkOf (now body) ≡ Stage.Passed) × (n ≡ countOf (now body)) × (at ≤ n) × ((i : ℕ) → i < at → fromOf (now body) i < v) ⌝ }
     ensures { λ r. ⌜ Split (now (body .entry)) n v r ⌝ }
 {
-    let mut i = at;
+    let mut i = skip(body, n, v, at);
     while i < n {
         if byte(body, 4 * i + 4) >= v {
             return i;
@@ -152,99 +184,66 @@ pub fn rows(body: &[u8]) -> [usize; 129]
     rows
 }
 
-// Where the flag is 1 and w is not marked yet, marks it and appends it to the queue. The queue's new end.
-fn enter(flag: usize, w: usize, marks: &mut [u8; 128], queue: &mut [u8; 128], tail: usize) -> usize
-    requires { ⌜ (w < 128) × Queued (now marks) (now queue) tail ⌝ }
-    ensures { λ r. ⌜ Grown (λ (x : ℕ). (flag ≡ 1) × (x ≡ w)) (now (marks .entry)) (now (queue .entry)) tail (now (marks .exit)) (now (queue .exit)) r ⌝ }
+// Where the flag is 1, puts w into set v of a table.
+fn insert_flagged(flag: usize, table: &mut [u64], v: usize, w: usize)
+    requires { ⌜ (2 * v + 2 ≤ length (now table)) × (w < 128) ⌝ }
+    ensures { λ _. ⌜ InsertedIf (flag ≡ 1) (now (table .entry)) v w (now (table .exit)) ⌝ }
 {
-    if flag != 1 {
-        return tail;
+    if flag == 1 {
+        insert(table, v, w);
     }
-    if marks[w] == 1 {
-        return tail;
-    }
-    marks[w] = 1;
-    queue[tail] = w as u8;
-    tail + 1
 }
 
-// Marks and appends what is marked in `begin`. The queue's new end.
-fn seed(begin: &[u8; 128], marks: &mut [u8; 128], queue: &mut [u8; 128]) -> usize
-    requires { ⌜ (length (now begin) ≡ 128) × Queued (now marks) (now queue) 0 ⌝ }
-    ensures { λ r. ⌜ Grown (λ (x : ℕ). getD (now (begin .entry)) x 0 ≡ 1) (now (marks .entry)) (now (queue .entry)) 0 (now (marks .exit)) (now (queue .exit)) r ⌝ }
+// The transitions whose `keep` byte is 1, as a table: set u has what they enter from u.
+fn kept_table(body: &[u8], keep: &[u8]) -> [u64; 256]
+    requires { ⌜ (checkOf (now body) ≡ Stage.Passed) × (countOf (now body) ≤ length (now keep)) ⌝ }
+    ensures { λ r. ⌜ Tabled 128 (Kept (now (body .entry)) (now (keep .entry))) r ⌝ }
 {
-    let mut tail: usize = 0;
-    let mut u: usize = 0;
-    while u < 128 {
-        tail = enter(byte(begin, u), u, marks, queue, tail);
-        u += 1;
-    }
-    tail
-}
-
-// Marks and appends what the kept ones of the transitions from lo up to hi enter. The queue's new end.
-fn visit(
-    body: &[u8],
-    keep: &[u8],
-    lo: usize,
-    hi: usize,
-    marks: &mut [u8; 128],
-    queue: &mut [u8; 128],
-    tail: usize,
-) -> usize
-    requires { ⌜ (checkOf (now body) ≡ Stage.Passed) × (countOf (now body) ≤ length (now keep)) × (lo ≤ hi) × (hi ≤ countOf (now body)) × Queued (now marks) (now queue) tail ⌝ }
-    ensures { λ r. ⌜ Grown (Entered (now (body .entry)) (now (keep .entry)) lo hi) (now (marks .entry)) (now (queue .entry)) tail (now (marks .exit)) (now (queue .exit)) r ⌝ }
-{
-    let mut end = tail;
-    let mut i = lo;
-    while i < hi {
-        end = enter(byte(keep, i), byte(body, 4 * i + 4 + 2), marks, queue, end);
+    let n = count(body);
+    let mut table = [0u64; 256];
+    let mut i: usize = 0;
+    while i < n {
+        let p = 4 * i + 4;
+        insert_flagged(byte(keep, i), &mut table, byte(body, p), byte(body, p + 2));
         i += 1;
     }
-    end
+    table
 }
 
-// The turn of one vertex: marks and appends what its kept transitions enter, unless it is `stop`. The queue's new end.
-fn leave(
-    body: &[u8],
-    rows: &[usize; 129],
-    keep: &[u8],
-    stop: usize,
-    u: usize,
-    marks: &mut [u8; 128],
-    queue: &mut [u8; 128],
-    tail: usize,
-) -> usize
-    requires { ⌜ (checkOf (now body) ≡ Stage.Passed) × Rows (now body) (now rows) × (countOf (now body) ≤ length (now keep)) × (u < 128) × Queued (now marks) (now queue) tail ⌝ }
-    ensures { λ r. ⌜ Grown (Avoid stop (Kept (now (body .entry)) (now (keep .entry))) u) (now (marks .entry)) (now (queue .entry)) tail (now (marks .exit)) (now (queue .exit)) r ⌝ }
+// The marked vertices as a set: a table of one.
+fn marked_set(marks: &[u8; 128]) -> [u64; 2]
+    requires { ⌜ length (now marks) ≡ 128 ⌝ }
+    ensures { λ r. ⌜ Tabled 1 (λ (x y : ℕ). getD (now (marks .entry)) y 0 ≡ 1) r ⌝ }
 {
-    if u == stop {
-        return tail;
+    let mut set = [0u64; 2];
+    let mut w: usize = 0;
+    while w < 128 {
+        insert_flagged(byte(marks, w), &mut set, 0, w);
+        w += 1;
     }
-    let lo = rows[u];
-    let hi = rows[u + 1];
-    visit(body, keep, lo, hi, marks, queue, tail)
+    set
+}
+
+// A set as marks: 1 for what is in it.
+fn set_marks(lo: u64, hi: u64) -> [u8; 128]
+    ensures { λ r. ⌜ Marks lo hi 128 r ⌝ }
+{
+    let mut marks = [0u8; 128];
+    let mut w: usize = 0;
+    while w < 128 {
+        marks[w] = holds(lo, hi, w) as u8;
+        w += 1;
+    }
+    marks
 }
 
 // What the transitions whose `keep` byte is 1 reach from the marked vertices, never leaving `stop`; the end, 0, stops nothing.
-pub fn reach(
-    body: &[u8],
-    rows: &[usize; 129],
-    keep: &[u8],
-    stop: usize,
-    marks: [u8; 128],
-) -> [u8; 128]
-    requires { ⌜ (checkOf (now body) ≡ Stage.Passed) × Rows (now body) (now rows) × (countOf (now body) ≤ length (now keep)) ⌝ }
+pub fn reach(body: &[u8], keep: &[u8], stop: usize, marks: [u8; 128]) -> [u8; 128]
+    requires { ⌜ (checkOf (now body) ≡ Stage.Passed) × (countOf (now body) ≤ length (now keep)) ⌝ }
     ensures { λ r. ⌜ Reached (now (body .entry)) (now (keep .entry)) stop marks r ⌝ }
 {
-    let mut reached = [0u8; 128];
-    let mut queue = [0u8; 128];
-    let mut tail = seed(&marks, &mut reached, &mut queue);
-    let mut head: usize = 0;
-    while head < tail {
-        let u = byte(&queue, head);
-        tail = leave(body, rows, keep, stop, u, &mut reached, &mut queue, tail);
-        head += 1;
-    }
-    reached
+    let table = kept_table(body, keep);
+    let from = marked_set(&marks);
+    let reached = closure(&table, &table, 0, stop, from[0], from[1]);
+    set_marks(reached[0], reached[1])
 }

@@ -52,6 +52,11 @@ set-keep (y ∷ a) zero (suc j) v x f e = e
 set-keep (y ∷ a) (suc i) zero v x f e = e
 set-keep (y ∷ a) (suc i) (suc j) v x f e = set-keep a i j v x (λ q. f (ap suc q)) e
 
+pub zeros : (m j : ℕ) → getD (replicate {A = ℕ} m 0) j 0 ≡ 0
+zeros zero j = refl
+zeros (suc m) zero = refl
+zeros (suc m) (suc j) = zeros m j
+
 module _ (s : List ℕ) (w : WellFormed s) where
   module _ (k : ℕ) (h : k < count s) (o : Op) (l r : ℕ) (e : node s k ≡ bin o l r) where
     left-target : (t : ℕ) → t ≡ targetOf s k → aimLeft o k r t ≡ targetOf s l
@@ -144,11 +149,6 @@ module _ (s : List ℕ) (w : WellFormed s) where
     root = zeros 128 (count s - 1) ∙ root-target;
     operand = λ p j g lt u. absurd (omega arith);
   }
-    where
-      zeros : (m j : ℕ) → getD (replicate {A = ℕ} m 0) j 0 ≡ 0
-      zeros zero j = refl
-      zeros (suc m) zero = refl
-      zeros (suc m) (suc j) = zeros m j
 
   pub aim-end : (a : List ℕ) → Aimed s 0 a → Targets s a
   aim-end a i = record { long = i .long; each = λ j h. own-target j a h (later j) }

@@ -1,4 +1,4 @@
--- The marks of a node's first actions, from those of its operands; and what is marked.
+-- The first actions of a node, from those of its operands; and the marks of them.
 use Prim.Native.Nat.{ℕ, _<_, _≤_}
 use mathlib.Core.Path.{_≡_, refl, ap, sym, _∙_}
 use mathlib.Core.Bool.{Bool, true, false, cond}
@@ -20,32 +20,40 @@ marked-append ranks [] is a = refl
 marked-append ranks (j ∷ js) is a = marked-append ranks js is (set a (getD ranks j 0) 1)
 
 module _ (s : List ℕ) (w : WellFormed s) (k : ℕ) (h : k < count s) where
+  pub first-dead : kindOf s k ≡ 0 → first (node s) k ≡ []
+  first-dead e = first-at (node s) (count s) (tree s w) k h dead (at-dead s k (w .good k h) e)
+
+  pub first-own : kindOf s k ≡ 1 → first (node s) k ≡ k ∷ []
+  first-own e = first-at (node s) (count s) (tree s w) k h (leaf (actionOf s k)) (at-leaf s k (w .good k h) e)
+
   first-bin : 2 ≤ kindOf s k → first (node s) k ≡ join (opOf (kindOf s k)) (first (node s) (leftOf s k)) (first (node s) (rightOf s k))
   first-bin q = first-at (node s) (count s) (tree s w) k h _ (at-bin s k (w .good k h) q)
+
+  pub first-left : kindOf s k ≡ 3 → first (node s) k ≡ first (node s) (leftOf s k)
+  first-left e = rw (first-bin (omega arith), ne-eqb (kindOf s k) 2 (λ q. omega arith), eq-eqb (kindOf s k) 3 e)
+
+  pub first-both : 2 ≤ kindOf s k → (kindOf s k ≡ 3 → ⊥) → first (node s) k ≡ first (node s) (leftOf s k) ++ first (node s) (rightOf s k)
+  first-both q n = first-bin q ∙ go (first (node s) (leftOf s k)) (first (node s) (rightOf s k)) (eqb (kindOf s k) 2) (eqb (kindOf s k) 3) (ne-eqb (kindOf s k) 3 n)
+    where
+      go : (a b : List ℕ) (x y : Bool) → y ≡ false → join (cond x op-sum (cond y op-product op-star)) a b ≡ a ++ b
+      go a b true y e = refl
+      go a b false true e = absurd (let z : _≡_ {A = ℕ} 0 1 = cc in omega arith)
+      go a b false false e = refl
 
   module _ (ranks : List ℕ) where
     pub mark-dead : (a : List ℕ) → kindOf s k ≡ 0 → a ≡ marked ranks (first (node s) k) a
     unfolding marked
-    mark-dead a e = rw (first-at (node s) (count s) (tree s w) k h dead (at-dead s k (w .good k h) e))
+    mark-dead a e = rw (first-dead e)
 
     pub mark-leaf : (a : List ℕ) → kindOf s k ≡ 1 → set a (getD ranks k 0) 1 ≡ marked ranks (first (node s) k) a
     unfolding marked
-    mark-leaf a e = rw (first-at (node s) (count s) (tree s w) k h (leaf (actionOf s k)) (at-leaf s k (w .good k h) e))
+    mark-leaf a e = rw (first-own e)
 
     pub mark-product : (a b : List ℕ) (l : ℕ) → kindOf s k ≡ 3 → l ≡ leftOf s k → b ≡ marked ranks (first (node s) l) a → b ≡ marked ranks (first (node s) k) a
-    mark-product a b l e el eb =
-        rw (first-bin (omega arith), ne-eqb (kindOf s k) 2 (λ q. omega arith), eq-eqb (kindOf s k) 3 e, ← el) eb
+    mark-product a b l e el eb = rw (first-left e, ← el) eb
 
     pub mark-both : (a b d : List ℕ) (l r : ℕ) → 2 ≤ kindOf s k → (kindOf s k ≡ 3 → ⊥) → l ≡ leftOf s k → r ≡ rightOf s k
         → b ≡ marked ranks (first (node s) l) a → d ≡ marked ranks (first (node s) r) b → d ≡ marked ranks (first (node s) k) a
     mark-both a b d l r q n el er eb ed =
         ed ∙ ap (marked ranks (first (node s) r)) eb ∙ sym (marked-append ranks (first (node s) l) (first (node s) r) a)
-        ∙ ap (λ (x : List ℕ). marked ranks x a) (sym both)
-      where
-        go : (x y : Bool) → y ≡ false → join (cond x op-sum (cond y op-product op-star)) (first (node s) l) (first (node s) r) ≡ first (node s) l ++ first (node s) r
-        go true y e = refl
-        go false true e = absurd (let z : _≡_ {A = ℕ} 0 1 = cc in omega arith)
-        go false false e = refl
-
-        both : first (node s) k ≡ first (node s) l ++ first (node s) r
-        both = first-bin q ∙ rw (← el, ← er) (go (eqb (kindOf s k) 2) (eqb (kindOf s k) 3) (ne-eqb (kindOf s k) 3 n))
+        ∙ ap (λ (x : List ℕ). marked ranks x a) (rw (el, er) (sym (first-both q n)))

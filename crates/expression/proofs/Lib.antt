@@ -10,3 +10,5 @@ pub mod Rows
 pub mod Sweeps
 pub mod Bodies
 pub mod Chart
+pub mod WordLaws
+pub mod Numbers

@@ -196,7 +196,7 @@ module _ (s : List ℕ) (w : WellFormed s) (keys : List ℕ) (m : ℕ) (ranks : 
   }
 
   -- a leaf's rank is that of its key
-  leaf-rank : (j a : ℕ) → j < count s → node s j ≡ leaf a → (getD ranks j 0 < m) × (getD keys (getD ranks j 0) 0 ≡ keyOf s j)
+  pub leaf-rank : (j a : ℕ) → j < count s → node s j ≡ leaf a → (getD ranks j 0 < m) × (getD keys (getD ranks j 0) 0 ≡ keyOf s j)
   unfolding keysBelow
   leaf-rank j a h e = go (ltb (getD ranks j 0) m) refl
     where
@@ -216,7 +216,7 @@ module _ (s : List ℕ) (w : WellFormed s) (keys : List ℕ) (m : ℕ) (ranks : 
 
   -- what a leaf's key is taken apart into
   module _ (k j a : ℕ) (h : j < count s) (e : node s j ≡ leaf a) where
-    row-edge : rowOf keys k (getD ranks j 0) ≡ (suc k, edge (node s) (count s) j .0, edge (node s) (count s) j .1)
+    pub row-edge : rowOf keys k (getD ranks j 0) ≡ (suc k, edge (node s) (count s) j .0, edge (node s) (count s) j .1)
     unfolding rowOf keyOf targetOf
     row-edge =
         let t = target-le s w j h in

@@ -2,8 +2,10 @@
 pub mod Table
 pub mod Body
 pub mod Charts
--- The code's way there: the uses, where each node leads, the keys of the leaves and their ranks, and the transitions in order.
+-- The code's way there: the uses, where each node leads, the keys of the leaves and their ranks, the transitions in order,
+-- and the first actions as words.
 pub mod Uses
 pub mod Targets
 pub mod Keys
 pub mod Sweep
+pub mod Words

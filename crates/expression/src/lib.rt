@@ -4,6 +4,7 @@ mod marks;
 mod nodes;
 mod ranks;
 mod targets;
+mod words;
 
 use body::write_body;
 use marks::count_transitions;
@@ -16,10 +17,12 @@ use report::Place;
 use report::Stage;
 use report::Written;
 use targets::find_targets;
+use words::first_words;
 ghost use mathlib.Core.Path.{_≡_};
 ghost use lib.ListN.{length};
 ghost use Rattle.expression.specs.Table.{checkOf, WellFormed};
-ghost use Rattle.expression.specs.Body.{writtenOf, bufferOf};
+ghost use Rattle.expression.specs.Body.{bodyOf, writtenOf, bufferOf};
+ghost use Rattle.chart.specs.Numbered.{Numbered};
 
 // The checks of an expression's nodes: 10, 11, 12.
 pub fn check(nodes: &[u8]) -> Stage
@@ -62,4 +65,18 @@ pub fn write_chart(nodes: &[u8], out: &mut [u8]) -> Written
         Stage::Refused(place) => Written::Refused(place),
         Stage::Passed => write_passed(nodes, out),
     }
+}
+
+// Numbers the steps of the expression's chart, without writing it: the keys, their number, and a
+// word for each vertex.
+pub fn number_steps(nodes: &[u8], keys: &mut [usize; 128], words: &mut [u64; 128]) -> usize
+    requires { ⌜ (checkOf (now nodes) ≡ Stage.Passed) × (length (now keys) ≡ 128) ⌝ }
+    ensures { λ r. ⌜ Numbered (bodyOf (now (nodes .entry))) (now (keys .exit)) (now (words .exit)) r ⌝ }
+{
+    let n = node_count(nodes);
+    let targets = find_targets(nodes, n);
+    let m = collect_keys(nodes, n, &targets, keys);
+    let ranks = rank_nodes(nodes, n, &targets, keys, m);
+    *words = first_words(nodes, n, &ranks);
+    m
 }

@@ -159,7 +159,7 @@ sum-one f zero k h = absurd (omega arith)
 sum-one f (suc m) k h = ⊎-elim (λ (e : k ≡ m). rw e (omega arith)) (λ (q : k < m). let i = sum-one f m k q in omega arith) (eq-or-lt-of-le (le-of-suc-le-suc h))
 
 -- w at a leaf, 0 elsewhere
-abbrev atLeaf : Node → ℕ → ℕ
+abbrev pub atLeaf : Node → ℕ → ℕ
 atLeaf bad w = 0
 atLeaf dead w = 0
 atLeaf (leaf a) w = w
@@ -291,6 +291,12 @@ leaves-le nd n tree =
     let q = sum-ones n in
     let d = sum-add (λ j. atLeaf (nd j) 1) (λ j. atBin (nd j)) n in
     omega arith
+
+-- what starts at 0 and grows by at most 1 at each leaf is at most their number
+pub leaves-most : (nd : ℕ → Node) (f : ℕ → ℕ) (n : ℕ) → f 0 ≡ 0 → ((k : ℕ) → f (suc k) ≤ f k + atLeaf (nd k) 1) → f n ≤ leaves nd n
+unfolding leaves sum
+leaves-most nd f zero z s = omega arith
+leaves-most nd f (suc n) z s = let i = leaves-most nd f n z s in let q = s n in omega arith
 
 -- the number of transitions
 collect-le : (nd : ℕ → Node) (n m : ℕ) → ((k : ℕ) → k < m → length (edges nd n k) ≤ 64) → length (collect nd n m) ≤ m * 64

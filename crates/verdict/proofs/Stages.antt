@@ -2,7 +2,7 @@
 use mathlib.Core.Path.{_≡_, refl, sym, _∙_, ap, ap₂}
 use mathlib.Core.Bool.{Bool, true, false, cond}
 use mathlib.Core.List.{List, _++_}
-use Prim.Native.Nat.{ℕ, zero, suc, _+_, _*_, _≤_, _<_}
+use Prim.Native.Nat.{ℕ, zero, suc, _+_, _*_, _/_, _≤_, _<_}
 use native.Mathlib.Omega.{arith}
 use lib.Dec.{ltb}
 use lib.ListN.{length, getD, take, drop, length-append, length-drop, List·getD-append}
@@ -13,20 +13,34 @@ use Rattle.report.specs.declared.Stage.{Stage}
 use Rattle.report.specs.declared.Stage.the-variants as stage
 use Rattle.report.specs.declared.Verdict.{Verdict}
 use Rattle.report.specs.declared.Verdict.the-variants.{Accepted, Refused}
-use Rattle.chart.specs.Bodies.{verticesOf, countOf}
+use Rattle.chart.specs.Bodies.{verticesOf, startOf, countOf}
 use Rattle.chart.specs.Checks as chart
 use Rattle.chart.proofs.Checks.{well-formed}
 use Rattle.expression.specs.Table as expression
+use Rattle.expression.specs.Table.{count}
 use Rattle.expression.specs.Body.{bodyOf, chartOf, bufferOf, writtenOf}
 use Rattle.expression.proofs.Table.{passed→well-formed}
 use Rattle.expression.proofs.Bodies.{body-long, chart-few}
-use Rattle.expression.proofs.Chart.{body-count}
+use Rattle.expression.proofs.Chart.{body-count, body-vertices, body-start}
 use Rattle.witness.specs.declared.Labelled.the-variants as labelled
 use Rattle.witness.specs.Labellings.{labelledOf}
 use Rattle.bisimulation.specs.Relations.{relationOf}
 use Rattle.verdict.specs.Files.{andThen, recordsOf, bodyAt}
 use Rattle.verdict.specs.Verdicts.{nodesIn, chartIn, labelsIn, relationIn, bodiesOf, counted, labellingOf, unless, loopsOf, after, verdictOf}
 use Rattle.verdict.proofs.Files.{both-passed}
+
+-- the vertices of the expression's chart: one for each node, and the end
+pub nodes-few : (s : List ℕ) → expression.checkOf s ≡ stage.Passed → length s / 4 + 1 ≤ 128
+unfolding count
+nodes-few s e = let n = passed→well-formed s e .sized .few in omega (arith, n)
+
+pub nodes-vertices : (s : List ℕ) → verticesOf (bodyOf s) ≡ length s / 4 + 1
+unfolding count
+nodes-vertices s = let e = body-vertices s in omega (arith, e)
+
+pub nodes-start : (s : List ℕ) → startOf (bodyOf s) ≡ length s / 4
+unfolding count
+nodes-start s = body-start s
 
 -- 1 TO 21
 module _ (f : List ℕ) where

@@ -16,7 +16,7 @@ use Rattle.chart.proofs.Relations.{steps-formed}
 use Rattle.witness.specs.declared.Labelled.{Labelled}
 use Rattle.witness.specs.declared.Labelled.the-variants.{Passed, Refused}
 use Rattle.witness.specs.Labellings.{loopsOf, labelledOf}
-use Rattle.witness.specs.Marks.{Lowest}
+use Rattle.witness.specs.Lowest.{Lowest}
 use Rattle.witness.specs.Answers.{LoopsSaid}
 use Rattle.witness.proofs.Labellings.{all-reached, labelled-checked}
 

@@ -1,7 +1,10 @@
 -- The laws: the theorems over bytes, then what the code's parts do.
 pub mod Counting
 pub mod Labellings
-pub mod Marking
+pub mod Sets
+pub mod Seen
+pub mod Lowest
+pub mod Given
 pub mod Reaching
 pub mod Loops
 pub mod Answers

@@ -1,70 +1,95 @@
--- What the code's reachabilities mark: what the start reaches, what follows a branch, the body of a loop.
+-- What the code's searches find: what the start reaches, what follows a branch, the body of a loop.
 use mathlib.Core.Path.{_≡_, refl, subst}
 use mathlib.Core.Logic.{_≢_, _↔_}
 use mathlib.Core.List.{List}
-use Prim.Native.Nat.{ℕ, _<_}
+use Prim.Native.Nat.{ℕ, _+_, _*_, _<_}
+use native.Mathlib.Omega.{arith}
 use lib.ListN.{getD}
+use Rattle.bits.specs.Words.{Has}
 use Rattle.theory.specs.Paths.{Edges, Star, Plus, Avoid}
 use Rattle.theory.specs.Charts.{Any, Branch}
 use Rattle.theory.specs.LoopCharts.{InLoop}
-use Rattle.theory.specs.Checks.{Unreached}
-use Rattle.theory.proofs.Paths.{plus-of, plus-first}
+use Rattle.theory.specs.Checks.{Unreached, OnBranchCycle}
+use Rattle.theory.proofs.Paths.{star-map, plus-map}
 use Rattle.theory.proofs.Rounds.{body-iff}
-use Rattle.chart.specs.Bodies.{verticesOf, startOf, countOf, WellFormed}
-use Rattle.chart.specs.Reached.{Kept, Reached}
+use Rattle.chart.specs.Bodies.{verticesOf, startOf, WellFormed}
+use Rattle.chart.specs.Sets.{Leads, Closed, FirstCycle}
 use Rattle.chart.specs.Steps.{StepsOf}
-use Rattle.chart.proofs.Marking.{reached-along, avoid-end}
-use Rattle.chart.proofs.Relations.{kept-all, kept-branch}
-use Rattle.witness.specs.Given.{Branches}
-use Rattle.witness.specs.Marks.{Marks, Lowest}
-use Rattle.witness.proofs.Marking.{lowest-here, lowest-none}
+use Rattle.chart.proofs.Relations.{steps-formed}
+use Rattle.witness.specs.Lowest.{Lowest}
+use Rattle.witness.specs.Tables.{Members, Table}
+use Rattle.witness.proofs.Lowest.{lowest-here, lowest-none}
 
--- from the vertices of B, along what the kept transitions are
-reached-from : {b keep marks r : List ℕ} {stop : ℕ} {E : Edges} {B P : ℕ → Type 0} → ((u w : ℕ) → Avoid stop (Kept b keep) u w ↔ E u w) → Marks B marks → Reached b keep stop marks r
-    → ((w : ℕ) → ((x : ℕ) × B x × Star E x w) ↔ P w) → Marks P r
-reached-from h M R f = record {
+-- from the vertices of B, along what the table has, which is E but for the transitions that leave stop
+closed-from : {a r : List ℕ} {stop lo hi : ℕ} {D E : Edges} {B P : ℕ → Type 0} → Table 128 D a → ((u w : ℕ) → D u w → (u < 128) × (w < 128)) → ((u w : ℕ) → Avoid stop D u w ↔ E u w)
+    → ((w : ℕ) → w < 128 → Has lo hi w ↔ B w) → ((w : ℕ) → B w → w < 128) → Closed a stop lo hi r → ((w : ℕ) → ((x : ℕ) × B x × Star E x w) ↔ P w) → Members P r
+closed-from {a} {stop = stop} {E = E} T low h M small R f = record {
   long = R .long;
-  exactly = λ w. (
-    λ e. let (x, q, p) = reached-along h R w .0 e in f w .0 (x, M .exactly x .0 q, p),
-    λ s. let (x, q, p) = f w .1 s in reached-along h R w .1 (x, M .exactly x .1 q, p),
+  exactly = λ w l. (
+    λ e. let (x, k, q, p) = R .exactly w l .0 e in f w .0 (x, M x k .0 q, star-map there p),
+    λ s. let (x, q, p) = f w .1 s in R .exactly w l .1 (x, small x q, M x (small x q) .1 q, star-map back p),
   );
 }
+  where
+    there : (u w : ℕ) → Avoid stop (Leads a) u w → E u w
+    there u w (n, s) = h u w .0 (n, T .exactly u w (s .from) (s .to) .0 (s .has))
 
--- 31: what the start reaches, by all transitions
-pub marks-reached : {b keep marks r : List ℕ} {start : ℕ} → WellFormed b → ((i : ℕ) → i < countOf b → getD keep i 0 ≡ 1) → Marks (λ (w : ℕ). w ≡ start) marks → Reached b keep 0 marks r → (labels : List ℕ) → Marks (Star (Any (StepsOf b labels)) start) r
-marks-reached {b} {keep} {start = start} W K M R labels =
-    reached-from
-    (λ u w. (λ e. kept-all b labels keep K u w .0 (avoid-end W keep u w .0 e), λ e. avoid-end W keep u w .1 (kept-all b labels keep K u w .1 e)))
-    M
-    R
-    (λ w. (λ (x, e, p). subst (λ (u : ℕ). Star (Any (StepsOf b labels)) u w) e p, λ p. (start, refl, p)))
+    back : (u w : ℕ) → E u w → Avoid stop (Leads a) u w
+    back u w e = let (n, d) = h u w .1 e in let (i, j) = low u w d in (n, record { from = i; to = j; has = T .exactly u w i j .1 d })
 
--- every vertex before w but the end is marked
-module _ {b labels r : List ℕ} (M : Marks (Star (Any (StepsOf b labels)) (startOf b)) r) {w : ℕ} (all : (k : ℕ) → 0 < k → k < w → getD r k 0 ≡ 1) where
+module _ {b labels : List ℕ} (W : WellFormed b) where
+  -- vertices are below 128, and the end has no transitions
+  pub step-low : {u l w : ℕ} → StepsOf b labels u l w → (u < 128) × (w < 128)
+  step-low s =
+      let F = steps-formed b labels W in
+      let v = W .header .vertices-high in
+      (omega (arith, F .from-vertex _ _ _ s .1), omega (arith, F .to-vertex _ _ _ s))
+
+  not-end : {u l w : ℕ} → StepsOf b labels u l w → u ≢ 0
+  not-end s e = omega (arith, steps-formed b labels W .from-vertex _ _ _ s .0)
+
+  -- 31: what the start reaches, by all transitions
+  pub members-reached : {next set r : List ℕ} {start : ℕ} → Table 128 (Any (StepsOf b labels)) next → start < 128 → Members (λ (w : ℕ). w ≡ start) set → Closed next 0 (getD set 0 0) (getD set 1 0) r → Members (Star (Any (StepsOf b labels)) start) r
+  members-reached {start = start} T h M R =
+      closed-from
+      T
+      (λ u w (l, s). step-low s)
+      (λ u w. (λ e. e .1, λ (l, s). (not-end s, (l, s))))
+      (M .exactly)
+      (λ w e. omega arith)
+      R
+      (λ w. (λ (x, e, p). subst (λ (u : ℕ). Star (Any (StepsOf b labels)) u w) e p, λ p. (start, refl, p)))
+
+  module _ {branches : List ℕ} (T : Table 128 (Branch (StepsOf b labels)) branches) where
+    -- 32: the table's first cycle is one of branches
+    pub cycle-lowest : {n r : ℕ} → FirstCycle branches n r → Lowest (OnBranchCycle (StepsOf b labels)) n r
+    cycle-lowest C = record { within = C .within; holds = λ h. plus-map there (C .cycles h); below = λ k h p. C .below k h (plus-map back p) }
+      where
+        there : (u w : ℕ) → Leads branches u w → Branch (StepsOf b labels) u w
+        there u w s = T .exactly u w (s .from) (s .to) .0 (s .has)
+
+        back : (u w : ℕ) → Branch (StepsOf b labels) u w → Leads branches u w
+        back u w s = let (i, j) = step-low s in record { from = i; to = j; has = T .exactly u w i j .1 s }
+
+    -- 33 to 35: the body of the loop (v, l)
+    pub members-body : {r : List ℕ} {v l lo hi : ℕ} → ((w : ℕ) → w < 128 → Has lo hi w ↔ StepsOf b labels v l w) → Closed branches v lo hi r → Members (Plus (InLoop (StepsOf b labels) v l) v) r
+    members-body M R =
+        closed-from
+        T
+        (λ x w s. step-low s)
+        (λ x w. (λ e. e, λ e. e))
+        M
+        (λ w s. step-low s .1)
+        R
+        (λ w. (body-iff w .1, body-iff w .0))
+
+-- every vertex before w but the end is reached
+module _ {b labels r : List ℕ} (W : WellFormed b) (M : Members (Star (Any (StepsOf b labels)) (startOf b)) r) {w : ℕ} (all : (k : ℕ) → 0 < k → k < w → Has (getD r 0 0) (getD r 1 0) k) where
   none-unreached : (k : ℕ) → k < w → ¬ Unreached (verticesOf b) (StepsOf b labels) (startOf b) k
-  none-unreached k h (a, l, p) = p (M .exactly k .0 (all k a h))
+  none-unreached k h (a, l, p) = p (M .exactly k (omega (arith, W .header .vertices-high)) .0 (all k a h))
 
-  pub unreached-here : 0 < w → w < verticesOf b → getD r w 0 ≢ 1 → Lowest (Unreached (verticesOf b) (StepsOf b labels) (startOf b)) (verticesOf b) w
-  unreached-here a l h = lowest-here none-unreached l (a, l, λ p. h (M .exactly w .1 p))
+  pub unreached-here : 0 < w → w < verticesOf b → ¬ Has (getD r 0 0) (getD r 1 0) w → Lowest (Unreached (verticesOf b) (StepsOf b labels) (startOf b)) (verticesOf b) w
+  unreached-here a l h = lowest-here none-unreached l (a, l, λ p. h (M .exactly w (omega (arith, W .header .vertices-high)) .1 p))
 
   pub unreached-none : w ≡ verticesOf b → Lowest (Unreached (verticesOf b) (StepsOf b labels) (startOf b)) (verticesOf b) w
   unreached-none e = lowest-none none-unreached e
-
-module _ {b labels keep : List ℕ} (K : Branches labels (countOf b) keep) where
-  -- 32: what one branch or more of u reach
-  pub marks-after : {marks r : List ℕ} {u : ℕ} → WellFormed b → Marks (StepsOf b labels u 0) marks → Reached b keep 0 marks r → Marks (Plus (Branch (StepsOf b labels)) u) r
-  marks-after {u = u} W M R =
-      reached-from
-      (λ x w. (λ e. kept-branch b labels keep (K .exactly) x w .0 (avoid-end W keep x w .0 e), λ e. avoid-end W keep x w .1 (kept-branch b labels keep (K .exactly) x w .1 e)))
-      M
-      R
-      (λ w. (λ (x, e, p). plus-of e p, plus-first))
-
-  -- 33 to 35: the body of the loop (v, l)
-  pub marks-body : {marks r : List ℕ} {v l : ℕ} → Marks (StepsOf b labels v l) marks → Reached b keep v marks r → Marks (Plus (InLoop (StepsOf b labels) v l) v) r
-  marks-body M R =
-      reached-from
-      (λ x w. (λ e. (e .0, kept-branch b labels keep (K .exactly) x w .0 (e .1)), λ e. (e .0, kept-branch b labels keep (K .exactly) x w .1 (e .1))))
-      M
-      R
-      (λ w. (body-iff w .1, body-iff w .0))

@@ -1,13 +1,16 @@
 -- What the checks of a labelling are given, and what is worked out of it once.
 use Prim.Native.Nat.{ℕ, _≤_, _<_}
 use mathlib.Core.Path.{_≡_}
-use mathlib.Core.Logic.{_⊎_, _↔_}
 use mathlib.Core.List.{List}
-use lib.ListN.{length, getD}
+use lib.ListN.{length}
+use Rattle.theory.specs.Paths.{Edges}
+use Rattle.theory.specs.Charts.{Steps, Branch, Loop}
 use Rattle.report.specs.declared.Stage.the-variants.{Passed}
-use Rattle.chart.specs.Bodies.{countOf, fromOf}
+use Rattle.chart.specs.Bodies.{countOf}
 use Rattle.chart.specs.Checks.{checkOf}
 use Rattle.chart.specs.Leaving.{Rows}
+use Rattle.chart.specs.Steps.{StepsOf}
+use Rattle.witness.specs.Tables.{Table}
 
 -- 20, 21 and 30 pass, and rows says where the transitions of each vertex begin
 pub record Given (b labels rows : List ℕ) : Type 0 where
@@ -15,20 +18,19 @@ pub record Given (b labels rows : List ℕ) : Type 0 where
   pub begins : Rows b rows
   pub long : length labels ≡ countOf b
 
--- of the first n transitions keep has 1 for the branches, and for no other
-pub record Branches (labels : List ℕ) (n : ℕ) (keep : List ℕ) : Type 0 where
-  pub long : n ≤ length keep
-  pub exactly : (i : ℕ) → i < n → (getD keep i 0 ≡ 1) ↔ (getD labels i 0 ≡ 0)
+-- entry transitions
+abbrev pub Entry : Steps → Edges
+Entry S u w = (l : ℕ) × (0 < l) × S u l w
 
--- of the first n transitions: entry u is the highest label of those that leave u, or 0
-pub record Highest (b labels : List ℕ) (n : ℕ) (h : List ℕ) : Type 0 where
-  pub long : length h ≡ 128
-  pub over : (i : ℕ) → i < n → getD labels i 0 ≤ getD h (fromOf b i) 0
-  pub met : (u : ℕ) → (getD h u 0 ≡ 0) ⊎ ((i : ℕ) × (i < n) × (fromOf b i ≡ u) × (getD labels i 0 ≡ getD h u 0))
+-- u has an entry of level l
+abbrev pub Enters : Steps → ℕ → ℕ → Type 0
+Enters S l u = Loop S u l
 
--- r is the lowest label above level among those from lo up to hi, or 256
-pub record NextLevel (labels : List ℕ) (lo hi level r : ℕ) : Type 0 where
-  pub above : level < r
-  pub high : r ≤ 256
-  pub met : r < 256 → (i : ℕ) × (lo ≤ i) × (i < hi) × (getD labels i 0 ≡ r)
-  pub lowest : (i : ℕ) → lo ≤ i → i < hi → level < getD labels i 0 → r ≤ getD labels i 0
+-- u has an entry of level l or higher
+abbrev pub EntersHigh : Steps → ℕ → ℕ → Type 0
+EntersHigh S l u = (m : ℕ) × Loop S u m × (l ≤ m)
+
+-- what the loops are checked by: what the branches of each vertex lead to, and which vertices have an entry of each level or a higher one
+pub record Tables (b labels branches high : List ℕ) : Type 0 where
+  pub of-branches : Table 128 (Branch (StepsOf b labels)) branches
+  pub of-levels : Table 256 (EntersHigh (StepsOf b labels)) high

@@ -1,7 +1,8 @@
 -- The definitions: the tests, then the contracts of the code's parts.
 pub mod Labellings
 pub mod Meanings
+pub mod Lowest
+pub mod Tables
 pub mod Given
-pub mod Marks
 pub mod Answers
 pub mod Loops

@@ -1,12 +1,11 @@
-use mathlib.Core.Path.{sym, _∙_}
 use Prim.Native.Nat.{ℕ, _+_, _*_, _-_, _≤_, _<_}
 use native.Mathlib.Nat.{le-refl}
-use native.Mathlib.Omega.{arith}
 use lib.ListN.{length}
-use borrow.Author.Needs.{needs}
+use Rattle.bits.proofs.Sets.{zero-off}
 use Rattle.bisimulation.specs.Answers.{Related}
-use Rattle.bisimulation.proofs.Rows.{is-not}
-use Rattle.bisimulation.proofs.Searching.{between-more}
+use Rattle.bisimulation.proofs.Rows.{on-through, column-found}
+use native.Mathlib.Omega.{arith}
+use borrow.Author.Needs.{needs}
 use Rattle.bisimulation.proofs.bit_from.Statement.{statement}
 use Rattle.bisimulation.proofs.bit_from.Tie as tie
 
@@ -19,13 +18,25 @@ abbrev μ-loop : tie.MeasureT-loop
 loop-holds : tie.Need-loop-holds Inv-loop μ-loop
 loop-holds c = (le-refl _, c .before .pre, λ j l h. absurd (omega arith))
 
-related-requires : tie.Need-related-requires Inv-loop μ-loop
-related-requires c κs = search needs
+half-row-requires : tie.Need-half-row-requires Inv-loop μ-loop
+half-row-requires c κs = (c .before .loop .inv .1, omega arith)
+
+down-requires : tie.Need-down-requires Inv-loop μ-loop
+down-requires c κs = search needs
+
+lowest-requires : tie.Need-lowest-requires Inv-loop μ-loop
+lowest-requires c κs = search needs
+
+add-result : tie.Need-add-result Inv-loop μ-loop
+add-result c = search needs
 
 returns : tie.Need-returns Inv-loop μ-loop
 returns c =
-    let i = c .before .before .before .loop .inv in
-    record { from = i .0; related = λ h. sym (c .before .related .ensures) ∙ c .if1 .taken; below = i .2 }
+    let i = c .before .before .before .before .before .loop .inv in
+    column-found _ _ (c .before .before .down .result) (i .0) (i .2) (c .before .before .before .before .loop-test .taken) (c .before .before .before .half-row .ensures) (c .before .before .down .ensures) _ (c .lowest .ensures)
+
+sub-w : tie.Need-sub-w Inv-loop μ-loop
+sub-w c = search needs
 
 add-w : tie.Need-add-w Inv-loop μ-loop
 add-w c = search needs
@@ -35,13 +46,12 @@ loop-less c = search needs
 
 loop-again : tie.Need-loop-again Inv-loop μ-loop
 loop-again c =
-    let i = c .before .before .before .loop .inv in
-    (omega arith, i .1, between-more _ _ (i .2) (is-not (c .if1 .left) (c .before .related .ensures)))
+    let k = c .before .before .before .before .before .before .args in
+    let i = c .before .before .before .before .loop .inv in
+    (omega arith, i .1, on-through (k .relation .now) (k .u) (c .before .down .result) (i .0) (i .2) (c .before .before .before .loop-test .taken) (c .before .before .half-row .ensures) (c .before .down .ensures) _ (le-refl _) (λ j l on. zero-off j (rw (c .if1 .left) at on)))
 
 returns-2 : tie.Need-returns-2 Inv-loop μ-loop
-returns-2 c =
-    let i = c .before .loop .inv in
-    record { from = i .0; related = λ h. absurd (omega arith); below = i .2 }
+returns-2 c = let i = c .before .loop .inv in record { from = i .0; related = λ h. absurd (omega arith); below = i .2 }
 
 pub bit-from-spec : {M : Type 1} → statement M
 bit-from-spec =
@@ -50,8 +60,12 @@ bit-from-spec =
     Inv-loop
     μ-loop
     loop-holds
-    related-requires
+    half-row-requires
+    down-requires
+    lowest-requires
+    add-result
     returns
+    sub-w
     add-w
     loop-less
     loop-again

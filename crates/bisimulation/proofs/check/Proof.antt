@@ -1,25 +1,22 @@
 use mathlib.Core.Path.{sym, _∙_}
+use Rattle.chart.proofs.Checks.{well-formed}
+use Rattle.bisimulation.proofs.Relations.{fitting, relation-of}
 use native.Mathlib.Omega.{arith}
 use borrow.Author.Needs.{needs}
-use borrow.Author.Tests.{not-true, not-false}
-use Rattle.theory.specs.Relations.{starts-apart, fails-42}
-use Rattle.chart.proofs.Checks.{well-formed}
-use Rattle.bisimulation.proofs.Rows.{is-not}
-use Rattle.bisimulation.proofs.Relations.{fails-40, fails-41, fitting, fits-after, relation-of}
+use borrow.Author.Needs.{needs}
 use Rattle.bisimulation.proofs.check.Statement.{statement}
 use Rattle.bisimulation.proofs.check.Tie as tie
 
 byte-requires : tie.Need-byte-requires
 byte-requires c κs = let l = well-formed _ (c .before .before .before .pre .0) .header .long in omega arith
 
-mul-if1 : tie.Need-mul-if1
-mul-if1 c = search needs
+byte-requires-2 : tie.Need-byte-requires-2
+byte-requires-2 c κs = let l = well-formed _ (c .before .before .before .before .pre .0) .header .long in omega arith
 
-returns : tie.Need-returns
-returns c = relation-of (fails-40 (λ q. c .if1 .taken (omega (arith, q, c .before .byte .ensures .0))))
-
-strays-requires : tie.Need-strays-requires
-strays-requires c κs = (c .before .before .before .before .before .pre .1, c .if1 .left)
+opening-requires : tie.Need-opening-requires
+opening-requires c κs =
+    let W = well-formed _ (c .before .before .before .before .before .pre .0) .header in
+    (c .before .before .before .before .before .pre .1, omega (arith, c .before .byte .ensures .0, W .vertices-high), omega (arith, c .before .byte .ensures .0, c .byte2 .ensures .0, W .start-high))
 
 enum-told : tie.Need-enum-told
 enum-told c = search needs
@@ -27,66 +24,38 @@ enum-told c = search needs
 enum-told-2 : tie.Need-enum-told-2
 enum-told-2 c = search needs
 
-returns-2 : tie.Need-returns-2
-returns-2 c =
-    let (u, v, F, q) = c .before .before .strays .ensures .refused _ (c .enum-told2 .given .1) in
-    q ∙ relation-of (fails-41 (rw (c .before .before .before .before .byte .ensures .0) at (c .before .before .before .if1 .left)) F)
-
-byte-requires-2 : tie.Need-byte-requires-2
-byte-requires-2 c κs = let l = well-formed _ (c .before .before .before .before .before .before .before .before .pre .0) .header .long in omega arith
-
-byte-requires-3 : tie.Need-byte-requires-3
-byte-requires-3 c κs = let l = well-formed _ (c .before .before .before .before .before .before .before .before .before .pre .1) .header .long in omega arith
-
-related-requires : tie.Need-related-requires
-related-requires c κs = omega (arith, c .before .byte2 .ensures .0, c .before .before .before .before .before .before .byte .ensures .0, c .before .before .before .before .before .if1 .left, well-formed _ (c .before .before .before .before .before .before .before .before .before .before .pre .0) .header .start-high)
-
-returns-3 : tie.Need-returns-3
-returns-3 c =
-    let r = rw (c .before .before .before .byte2 .ensures .0, c .before .before .byte3 .ensures .0) at (c .before .related .ensures) in
-    rw (c .before .before .before .byte2 .ensures .0, c .before .before .byte3 .ensures .0)
-    (relation-of (fitting {o = starts-apart} (fits-after (c .before .before .before .before .before .before .before .before .byte .ensures .0) (c .before .before .before .before .before .before .before .if1 .left) (c .before .before .before .before .before .before .strays .ensures) (c .before .before .before .before .enum-told .given .1)) (fails-42 (is-not (not-true _ (c .if2 .taken)) r))))
+returns : tie.Need-returns
+returns c = c .before .before .opening .ensures .refused _ (c .enum-told2 .given .1) _ (sym (c .before .before .before .before .byte .ensures .0)) (sym (c .before .before .before .byte2 .ensures .0))
 
 rows-requires : tie.Need-rows-requires
-rows-requires c κs = c .before .before .before .before .before .before .before .before .before .before .before .before .pre .0
+rows-requires c κs = c .before .before .before .before .before .before .before .before .pre .0
 
 rows-requires-2 : tie.Need-rows-requires-2
-rows-requires-2 c κs = c .before .before .before .before .before .before .before .before .before .before .before .before .before .pre .1
+rows-requires-2 c κs = c .before .before .before .before .before .before .before .before .before .pre .1
 
 pairs-requires : tie.Need-pairs-requires
 pairs-requires c κs =
-    let r = rw (c .before .before .before .before .before .before .before .byte2 .ensures .0, c .before .before .before .before .before .before .byte3 .ensures .0) at (c .before .before .before .before .before .related .ensures) in (
-      record {
-        left-formed = well-formed _ (c .before .before .before .before .before .before .before .before .before .before .before .before .before .before .before .before .pre .0);
-        right-formed = well-formed _ (c .before .before .before .before .before .before .before .before .before .before .before .before .before .before .before .before .pre .1);
-        left-rows = c .before .before .before .rows .ensures;
-        right-rows = c .before .before .rows2 .ensures;
-        fits = fits-after (c .before .before .before .before .before .before .before .before .before .before .before .before .byte .ensures .0) (c .before .before .before .before .before .before .before .before .before .before .before .if1 .left) (c .before .before .before .before .before .before .before .before .before .before .strays .ensures) (c .before .before .before .before .before .before .before .before .enum-told .given .1);
-      },
-      sym r ∙ not-false _ (c .before .before .before .before .if2 .left),
-    )
+    let p = c .before .before .before .before .before .before .before .before .before .before .before .before .pre in
+    let (F, S) = c .before .before .before .before .before .before .opening .ensures .passed (c .before .before .before .before .enum-told .given .1) _ (sym (c .before .before .before .before .before .before .before .before .byte .ensures .0)) (sym (c .before .before .before .before .before .before .before .byte2 .ensures .0)) in
+    (record { left-formed = well-formed _ (p .0); right-formed = well-formed _ (p .1); left-rows = c .before .before .before .rows .ensures; right-rows = c .before .before .rows2 .ensures; fits = F }, S, p .2)
 
-returns-4 : tie.Need-returns-4
-returns-4 c =
+returns-2 : tie.Need-returns-2
+returns-2 c =
+    let (F, S) = c .before .before .before .before .before .before .before .opening .ensures .passed (c .before .before .before .before .before .enum-told .given .1) _ (sym (c .before .before .before .before .before .before .before .before .before .byte .ensures .0)) (sym (c .before .before .before .before .before .before .before .before .byte2 .ensures .0)) in
     let (o, h, q) = c .pairs .ensures in
-    q ∙ relation-of (fitting (fits-after (c .before .before .before .before .before .before .before .before .before .before .before .before .before .byte .ensures .0) (c .before .before .before .before .before .before .before .before .before .before .before .before .if1 .left) (c .before .before .before .before .before .before .before .before .before .before .before .strays .ensures) (c .before .before .before .before .before .before .before .before .before .enum-told .given .1)) h)
+    q ∙ relation-of (fitting F h)
 
 pub check-spec : {M : Type 1} → statement M
 check-spec =
     tie.close
     (tie.spec
     byte-requires
-    mul-if1
-    returns
-    strays-requires
+    byte-requires-2
+    opening-requires
     enum-told
     enum-told-2
-    returns-2
-    byte-requires-2
-    byte-requires-3
-    related-requires
-    returns-3
+    returns
     rows-requires
     rows-requires-2
     pairs-requires
-    returns-4)
+    returns-2)

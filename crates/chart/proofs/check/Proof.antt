@@ -1,19 +1,21 @@
-use mathlib.Core.Path.{_≡_, refl, sym, _∙_}
-use Prim.Native.Nat.{_≤_, _-_}
+use mathlib.Core.Path.{_≡_, sym, _∙_}
+use Prim.Native.Nat.{_-_}
 use native.Mathlib.Omega.{arith}
+use lib.ListN.{length}
 use borrow.Author.Tests.{not-true, not-false}
 use borrow.Author.Needs.{needs}
-use Rattle.chart.specs.Checks.{firstBad, checkOf}
-use Rattle.chart.specs.Bodies.{countOf, HeaderFits}
-use Rattle.chart.proofs.Checks.{header-true, bad-step, bad-stop, bad-end, check-header, check-start}
+use Rattle.bits.specs.Bits.{Bytes}
+use Rattle.chart.specs.Bodies.{verticesOf, HeaderFits}
+use Rattle.chart.proofs.Checks.{header-true, check-header}
+use Rattle.chart.proofs.Words.{Turn, turn-start, turn-step, turn-stop, turn-end}
 use Rattle.chart.proofs.check.Statement.{statement}
 use Rattle.chart.proofs.check.Tie as tie
 
 abbrev Inv-loop : tie.InvT-loop
-Inv-loop body i₀ i = HeaderFits body × (i ≤ countOf body) × (firstBad body i (countOf body - i) ≡ checkOf body)
+Inv-loop body v before₀ p₀ before p = Bytes body × HeaderFits body × (v ≡ verticesOf body) × Turn body p before
 
 abbrev μ-loop : tie.MeasureT-loop
-μ-loop body i₀ i = countOf body - i
+μ-loop body v before₀ p₀ before p = length body - p
 
 header-ok-requires : tie.Need-header-ok-requires Inv-loop μ-loop
 header-ok-requires c κs = search needs
@@ -21,38 +23,56 @@ header-ok-requires c κs = search needs
 returns : tie.Need-returns Inv-loop μ-loop
 returns c = sym (check-header _ (sym (c .before .header-ok .ensures) ∙ not-true _ (c .if1 .taken)))
 
+byte-requires : tie.Need-byte-requires Inv-loop μ-loop
+byte-requires c κs = omega (arith, header-true _ (sym (c .before .header-ok .ensures) ∙ not-false _ (c .if1 .left)) .long)
+
 loop-holds : tie.Need-loop-holds Inv-loop μ-loop
 loop-holds c =
-    let ok = sym (c .before .header-ok .ensures) ∙ not-false _ (c .if1 .left) in
-    (header-true _ ok, search needs, check-start _ _ ok refl)
-
-mul-loop : tie.Need-mul-loop Inv-loop μ-loop
-mul-loop c = search needs
+    let d = c .before in
+    let ok = sym (d .before .header-ok .ensures) ∙ not-false _ (d .if1 .left) in
+    (λ k. omega (arith, d .before .before .shared-slice-known .given k), header-true _ ok, c .byte .ensures .0, turn-start _ ok)
 
 add-loop : tie.Need-add-loop Inv-loop μ-loop
-add-loop c = search needs
+add-loop c = let i = c .loop .inv in omega (arith, i .1 .count-high, i .3 .place, i .3 .within)
 
-ok-at-requires : tie.Need-ok-at-requires Inv-loop μ-loop
-ok-at-requires c κs = search needs
+word-at-requires : tie.Need-word-at-requires Inv-loop μ-loop
+word-at-requires c κs = search needs
+
+turned-requires : tie.Need-turned-requires Inv-loop μ-loop
+turned-requires c κs = search needs
+
+word-ok-requires : tie.Need-word-ok-requires Inv-loop μ-loop
+word-ok-requires c κs = let i = c .before .before .before .loop .inv in omega (arith, i .1 .vertices-high, i .2)
+
+sub-t14 : tie.Need-sub-t14 Inv-loop μ-loop
+sub-t14 c = let i = c .before .before .before .before .before .loop .inv in omega (arith, i .3 .place)
 
 returns-2 : tie.Need-returns-2 Inv-loop μ-loop
 returns-2 c =
-    let i = c .before .before .before .loop in
-    sym (bad-stop _ _ _ (omega arith) (sym (c .before .ok-at .ensures) ∙ not-true _ (c .if2 .taken))) ∙ i .inv .2
+    let t = c .before .before .before .before in
+    let i = t .before .loop .inv in
+    turn-stop _ (i .0) (i .1) (i .3) (omega arith) (i .2) (c .before .before .before .word-at .ensures .0) (c .before .before .turned .ensures)
+    (sym (c .before .word-ok .ensures) ∙ not-true _ (c .if2 .taken))
 
-add-i : tie.Need-add-i Inv-loop μ-loop
-add-i c = search needs
+add-p : tie.Need-add-p Inv-loop μ-loop
+add-p c = search needs
 
 loop-less : tie.Need-loop-less Inv-loop μ-loop
 loop-less c = search needs
 
 loop-again : tie.Need-loop-again Inv-loop μ-loop
 loop-again c =
-    let i = c .before .before .before .loop .inv in
-    (i .0, omega arith, sym (bad-step _ _ _ (omega arith) (sym (c .before .ok-at .ensures) ∙ not-false _ (c .if2 .left))) ∙ i .2)
+    let t = c .before .before .before .before in
+    let i = t .before .loop .inv in (
+      i .0,
+      i .1,
+      i .2,
+      turn-step _ (i .0) (i .1) (i .3) (omega arith) (i .2) (c .before .before .before .word-at .ensures .0) (c .before .before .turned .ensures)
+          (sym (c .before .word-ok .ensures) ∙ not-false _ (c .if2 .left)),
+    )
 
 returns-3 : tie.Need-returns-3 Inv-loop μ-loop
-returns-3 c = sym (bad-end _ _ _ (omega arith)) ∙ c .before .loop .inv .2
+returns-3 c = let i = c .before .loop .inv in turn-end _ (i .1) _ _ (i .3) (omega arith)
 
 pub check-spec : {M : Type 1} → statement M
 check-spec =
@@ -62,12 +82,15 @@ check-spec =
     μ-loop
     header-ok-requires
     returns
+    byte-requires
     loop-holds
-    mul-loop
     add-loop
-    ok-at-requires
+    word-at-requires
+    turned-requires
+    word-ok-requires
+    sub-t14
     returns-2
-    add-i
+    add-p
     loop-less
     loop-again
     returns-3)

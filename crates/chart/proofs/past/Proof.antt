@@ -16,10 +16,14 @@ Inv-loop body n v at i₀ i = WellFormed body × Bytes body × (n ≡ countOf bo
 abbrev μ-loop : tie.MeasureT-loop
 μ-loop body n v at i₀ i = n - i
 
+skip-requires : tie.Need-skip-requires Inv-loop μ-loop
+skip-requires c κs = c .before .pre
+
 loop-holds : tie.Need-loop-holds Inv-loop μ-loop
 loop-holds c =
-    let p = c .before .pre in
-    (well-formed _ (p .0), λ k. omega (arith, c .shared-slice-known .given k), p .1, p .2, p .3)
+    let p = c .before .before .pre in
+    let s = c .skip .ensures in
+    (well-formed _ (p .0), λ k. omega (arith, c .before .shared-slice-known .given k), p .1, s .0, s .1)
 
 mul-byte : tie.Need-mul-byte Inv-loop μ-loop
 mul-byte c = search needs
@@ -57,6 +61,7 @@ past-spec =
     (tie.spec
     Inv-loop
     μ-loop
+    skip-requires
     loop-holds
     mul-byte
     add-byte

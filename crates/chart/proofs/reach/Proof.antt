@@ -1,74 +1,52 @@
-use mathlib.Core.Path.{_≡_, refl}
-use Prim.Native.Nat.{_-_, _≤_}
-use native.Mathlib.Omega.{arith}
+use mathlib.Core.Path.{_≡_}
 use lib.ListN.{length}
 use borrow.Author.Needs.{needs}
-use Rattle.report.specs.declared.Stage.the-variants.{Passed}
-use Rattle.theory.specs.Paths.{Avoid}
-use Rattle.chart.specs.Reached.{Kept}
-use Rattle.chart.specs.Leaving.{Rows}
-use Rattle.chart.specs.Checks.{checkOf}
-use Rattle.chart.specs.Bodies.{countOf}
-use Rattle.chart.proofs.Marking.{Walk, walk-begin, walk-on, walk-end, reached-begin, seeded}
-use Rattle.chart.proofs.Queues.{queued-none, marked-low, tail-high}
+use Rattle.chart.proofs.Checks.{well-formed}
+use Rattle.chart.proofs.Marking.{closed-reached}
+use Rattle.chart.proofs.Searches.{known-none}
 use Rattle.chart.proofs.reach.Statement.{statement}
 use Rattle.chart.proofs.reach.Tie as tie
 
-abbrev Inv-loop : tie.InvT-loop
-Inv-loop body rows keep stop reached₀ queue₀ tail₀ head₀ reached queue tail head = (checkOf body ≡ Passed) × Rows body rows × (countOf body ≤ length keep) × Walk (Avoid stop (Kept body keep)) reached₀ reached queue head tail
+kept-table-requires : tie.Need-kept-table-requires
+kept-table-requires c κs = search needs
 
-abbrev μ-loop : tie.MeasureT-loop
-μ-loop body rows keep stop reached₀ queue₀ tail₀ head₀ reached queue tail head = 128 - head
+marked-set-requires : tie.Need-marked-set-requires
+marked-set-requires c κs = search needs
 
-seed-requires : tie.Need-seed-requires Inv-loop μ-loop
-seed-requires c κs = (search needs, queued-none 128 refl)
+array-read-closure : tie.Need-array-read-closure
+array-read-closure c = search needs
 
-loop-holds : tie.Need-loop-holds Inv-loop μ-loop
-loop-holds c =
-    let p = c .before .before .before .before .before .before .pre in
-    (p .0, p .1, p .2, walk-begin (c .seed .ensures .queued))
+array-read-closure-2 : tie.Need-array-read-closure-2
+array-read-closure-2 c = search needs
 
-slice-aggregate-byte : tie.Need-slice-aggregate-byte Inv-loop μ-loop
-slice-aggregate-byte c = search needs
+closure-requires : tie.Need-closure-requires
+closure-requires c κs = let l = c .before .before .before .before .kept-table .ensures .long in (l, l, known-none _ _)
 
-byte-requires : tie.Need-byte-requires Inv-loop μ-loop
-byte-requires c κs =
-    let W = c .before .before .loop .inv .3 in
-    let t = tail-high (W .queued) in
-    let l = W .queued .q-long in
-    search needs
+array-read-set-marks : tie.Need-array-read-set-marks
+array-read-set-marks c = search needs
 
-leave-requires : tie.Need-leave-requires Inv-loop μ-loop
-leave-requires c κs =
-    let i = c .before .before .before .before .before .loop .inv in
-    (i .0, i .1, i .2, rw (c .before .before .byte .ensures .0) (marked-low (i .3 .queued) _ (i .3 .queued .entries _ (c .before .before .before .before .loop-test .taken))), i .3 .queued)
+array-read-set-marks-2 : tie.Need-array-read-set-marks-2
+array-read-set-marks-2 c = search needs
 
-add-head : tie.Need-add-head Inv-loop μ-loop
-add-head c = search needs
+set-marks-requires : tie.Need-set-marks-requires
+set-marks-requires c κs = search needs
 
-loop-less : tie.Need-loop-less Inv-loop μ-loop
-loop-less c = let t = tail-high (c .before .before .before .before .before .before .loop .inv .3 .queued) in omega arith
-
-loop-again : tie.Need-loop-again Inv-loop μ-loop
-loop-again c =
-    let i = c .before .before .before .before .before .before .loop .inv in
-    (i .0, i .1, i .2, walk-on (i .3) (c .before .before .before .before .before .loop-test .taken) (rw (c .before .before .before .byte .ensures .0) at (c .leave .ensures)))
-
-returns : tie.Need-returns Inv-loop μ-loop
-returns c = reached-begin (seeded 128 (c .before .before .seed .ensures)) (walk-end (c .before .loop .inv .3) (c .loop-test .left))
+returns : tie.Need-returns
+returns c =
+    let k = c .before .before .before .before .before .before .before .before .before in
+    let l : length (k .args .t4) ≡ 128 = search needs in
+    closed-reached (well-formed _ (k .pre .0)) l (c .before .before .before .before .before .before .kept-table .ensures) (c .before .before .before .before .marked-set .ensures) (c .before .closure .ensures) (c .set-marks .ensures)
 
 pub reach-spec : {M : Type 1} → statement M
 reach-spec =
     tie.close
     (tie.spec
-    Inv-loop
-    μ-loop
-    seed-requires
-    loop-holds
-    slice-aggregate-byte
-    byte-requires
-    leave-requires
-    add-head
-    loop-less
-    loop-again
+    kept-table-requires
+    marked-set-requires
+    array-read-closure
+    array-read-closure-2
+    closure-requires
+    array-read-set-marks
+    array-read-set-marks-2
+    set-marks-requires
     returns)

@@ -1,76 +1,73 @@
-use mathlib.Core.Path.{_≡_, refl, sym, _∙_, ap}
-use Prim.Native.Nat.{ℕ, _+_, _-_, _*_, _≤_, _<_}
+use lib.ListN.{getD}
+use mathlib.Core.Path.{_≡_, sym, _∙_}
 use native.Mathlib.Omega.{arith}
-use mathlib.Core.List.{List}
-use Rattle.chart.specs.Checks as chart
-use Rattle.expression.proofs.Chart.{body-passes}
-use Rattle.bisimulation.specs.Relations.{relationOf}
-use Rattle.verdict.proofs.Stages.{part-body, part-room, part-long}
+use Rattle.bisimulation.proofs.Openings.{settled}
+use Rattle.bisimulation.proofs.ClearLaws.{both-zero}
+use Rattle.expression.specs.Body.{bodyOf}
+use Rattle.verdict.proofs.Stages.{nodes-few, nodes-vertices, nodes-start}
 use borrow.Author.Needs.{needs}
 use Rattle.verdict.proofs.check_relation.Statement.{statement}
 use Rattle.verdict.proofs.check_relation.Tie as tie
 
-room-requires : tie.Need-room-requires
-room-requires c κs = search needs
+add-opening : tie.Need-add-opening
+add-opening c = search needs
 
-slice-aggregate-write-chart : tie.Need-slice-aggregate-write-chart
-slice-aggregate-write-chart c = search needs
+opening-requires : tie.Need-opening-requires
+opening-requires c κs = let k = c .before .before .before in (k .pre .1, nodes-few _ (k .pre .0), omega arith)
 
-write-chart-requires : tie.Need-write-chart-requires
-write-chart-requires c κs = search needs
+enum-told : tie.Need-enum-told
+enum-told c = search needs
 
-slice-aggregate-count : tie.Need-slice-aggregate-count
-slice-aggregate-count c = search needs
-
-count-requires : tie.Need-count-requires
-count-requires c κs = search needs
-
-mul-end : tie.Need-mul-end
-mul-end c = search needs
-
-add-end : tie.Need-add-end
-add-end c = search needs
-
-array-share-prefix-out : tie.Need-array-share-prefix-out
-array-share-prefix-out c =
-    let w = c .before .before .before in
-    let r = w .before .before in
-    part-room _ (r .room .result) (r .before .before .before .before .pre .0) (r .room .ensures) _ (w .write-chart .ensures .1) _ (c .count .ensures .0)
-
-slice-aggregate-check : tie.Need-slice-aggregate-check
-slice-aggregate-check c =
-    let w = c .before .before .before .before in
-    let r = w .before .before in
-    part-long _ (r .room .result) (r .before .before .before .before .pre .0) (r .room .ensures) _ (w .write-chart .ensures .1) _ (c .before .count .ensures .0)
-
-check-requires : tie.Need-check-requires
-check-requires c κs =
-    let w = c .before .before .before .before in
-    let r = w .before .before in
-    let start = r .before .before .before .before in
-    let part = part-body _ (r .room .result) (start .pre .0) (r .room .ensures) _ (w .write-chart .ensures .1) _ (c .before .count .ensures .0) in
-    (ap chart.checkOf part ∙ body-passes _ (λ i. omega (arith, r .before .before .before .shared-slice-known .given i)) (start .pre .0), start .pre .1)
+enum-told-2 : tie.Need-enum-told-2
+enum-told-2 c = search needs
 
 returns : tie.Need-returns
-returns c =
-    let w = c .before .before .before .before .before in
-    let r = w .before .before in
-    let part = part-body _ (r .room .result) (r .before .before .before .before .pre .0) (r .room .ensures) _ (w .write-chart .ensures .1) _ (c .before .before .count .ensures .0) in
-    let start = r .before .before .before .before in
-    c .check .ensures ∙ ap (λ (x : List ℕ). relationOf x (start .args .chart .now) (start .args .relation .now)) part
+returns c = let k = c .before .before .before .before .before .before in let n = k .args .nodes .now in c .before .before .opening .ensures .refused _ (c .enum-told2 .given .1) (bodyOf n) (nodes-vertices n) (nodes-start n)
+
+add-suspect-rows : tie.Need-add-suspect-rows
+add-suspect-rows c = search needs
+
+suspect-rows-requires : tie.Need-suspect-rows-requires
+suspect-rows-requires c κs =
+    let k = c .before .before .before .before .before .before in
+    let n = k .args .nodes .now in
+    let f = c .before .before .opening .ensures .passed (c .enum-told .given .1) (bodyOf n) (nodes-vertices n) (nodes-start n) .0 .whole in
+    (k .pre .0, k .pre .1, sym (nodes-vertices n), nodes-few n (k .pre .0), rw (nodes-vertices n) at f)
+
+array-read-lo : tie.Need-array-read-lo
+array-read-lo c = search needs
+
+array-read-hi : tie.Need-array-read-hi
+array-read-hi c = search needs
+
+returns-2 : tie.Need-returns-2
+returns-2 c =
+    let k = c .before .before .before .before .before .before .before .before in
+    let n = k .args .nodes .now in
+    let o = c .before .before .before .before .opening .ensures in
+    let r = c .before .suspect-rows in
+    let (e, f) = both-zero (getD (r .result) 0 0) (getD (r .result) 1 0) (c .if1 .taken) in
+    sym (settled o (c .before .before .enum-told .given .1) (bodyOf n) (nodes-vertices n) (nodes-start n) (rw (e, f) at (r .ensures .1)))
+
+search-relation-requires : tie.Need-search-relation-requires
+search-relation-requires c κs = search needs
+
+returns-3 : tie.Need-returns-3
+returns-3 c = search needs
 
 pub check-relation-spec : {M : Type 1} → statement M
 check-relation-spec =
     tie.close
     (tie.spec
-    room-requires
-    slice-aggregate-write-chart
-    write-chart-requires
-    slice-aggregate-count
-    count-requires
-    mul-end
-    add-end
-    array-share-prefix-out
-    slice-aggregate-check
-    check-requires
-    returns)
+    add-opening
+    opening-requires
+    enum-told
+    enum-told-2
+    returns
+    add-suspect-rows
+    suspect-rows-requires
+    array-read-lo
+    array-read-hi
+    returns-2
+    search-relation-requires
+    returns-3)

@@ -1,9 +1,12 @@
-use mathlib.Core.Path.{sym, _∙_}
+use mathlib.Core.Path.{refl, sym, _∙_}
 use native.Mathlib.Omega.{arith}
-use borrow.Author.Needs.{needs}
+use Rattle.bits.specs.Bits.{Bytes}
 use Rattle.chart.proofs.Checks.{well-formed}
 use Rattle.witness.proofs.Answers.{answer-31, answer-32, answer-loops}
+use Rattle.witness.proofs.Given.{next-of, tables-of}
 use Rattle.witness.proofs.Labellings.{labelled-long}
+use Rattle.witness.proofs.Sets.{gained}
+use borrow.Author.Needs.{needs}
 use Rattle.witness.proofs.check.Statement.{statement}
 use Rattle.witness.proofs.check.Tie as tie
 
@@ -16,47 +19,67 @@ returns c = sym (labelled-long _ _ (λ e. c .if1 .taken (e ∙ sym (c .before .c
 byte-requires : tie.Need-byte-requires
 byte-requires c κs = let w = well-formed _ (c .before .before .before .before .pre) .header .long in omega arith
 
-rows-requires : tie.Need-rows-requires
-rows-requires c κs = search needs
+slice-aggregate-collect : tie.Need-slice-aggregate-collect
+slice-aggregate-collect c = search needs
+
+slice-aggregate-collect-2 : tie.Need-slice-aggregate-collect-2
+slice-aggregate-collect-2 c = search needs
+
+slice-aggregate-collect-3 : tie.Need-slice-aggregate-collect-3
+slice-aggregate-collect-3 c = search needs
+
+collect-requires : tie.Need-collect-requires
+collect-requires c κs = search needs
+
+unite-requires : tie.Need-unite-requires
+unite-requires c κs = search needs
 
 unreached-requires : tie.Need-unreached-requires
 unreached-requires c κs = search needs
 
 returns-2 : tie.Need-returns-2
 returns-2 c =
-    let w = well-formed _ (c .before .before .before .before .before .before .before .before .before .pre) in
-    sym (answer-31 _ _ w (λ k. omega (arith, c .before .before .before .before .before .before .before .shared-slice-known2 .given k)) (omega arith) (c .before .unreached .ensures _) (omega arith))
-
-branches-requires : tie.Need-branches-requires
-branches-requires c κs = let w = well-formed _ (c .before .before .before .before .before .before .before .before .before .pre) .header .count-high in (omega arith, omega arith)
-
-slice-aggregate-branch-cycle : tie.Need-slice-aggregate-branch-cycle
-slice-aggregate-branch-cycle c = search needs
+    let w = well-formed _ (c .before .before .before .before .before .before .before .before .before .before .before .before .before .before .before .before .before .before .pre) in
+    let g = c .before .before .before .before .before .before .before .before .before .collect .ensures in
+    let k : Bytes (c .before .before .before .before .before .before .before .before .before .before .before .before .before .before .before .before .before .before .args .labels .now) = λ k. omega (arith, c .before .before .before .before .before .before .before .before .before .before .before .before .before .before .before .before .shared-slice-known2 .given k) in
+    let l = c .before .before .before .before .before .before .before .before .before .before .before .before .before .before .if1 .left ∙ c .before .before .before .before .before .before .before .before .before .before .before .before .before .before .before .count .ensures .0 in
+    sym (answer-31 _ _ w k l (c .before .unreached .ensures _ (next-of (g .0) (g .1) (c .before .before .before .unite .ensures))) (omega arith))
 
 branch-cycle-requires : tie.Need-branch-cycle-requires
-branch-cycle-requires c κs =
-    (record { passed = c .before .before .before .before .before .before .before .before .before .before .before .before .pre; begins = c .before .before .before .before .before .before .rows .ensures; long = omega arith }, rw (c .before .before .before .before .before .before .before .before .before .count .ensures .0) at (c .before .before .branches .ensures))
+branch-cycle-requires c κs = search needs
 
 returns-3 : tie.Need-returns-3
 returns-3 c =
-    let w = well-formed _ (c .before .before .before .before .before .before .before .before .before .before .before .before .before .before .pre) in
-    sym (answer-32 _ _ w (λ k. omega (arith, c .before .before .before .before .before .before .before .before .before .before .before .before .shared-slice-known2 .given k)) (omega arith) (c .before .before .before .before .before .before .unreached .ensures _) (omega arith) (c .before .branch-cycle .ensures) (omega arith))
+    let w = well-formed _ (c .before .before .before .before .before .before .before .before .before .before .before .before .before .before .before .before .before .before .before .before .before .before .pre) in
+    let g = c .before .before .before .before .before .before .before .before .before .before .before .before .before .collect .ensures in
+    let k : Bytes (c .before .before .before .before .before .before .before .before .before .before .before .before .before .before .before .before .before .before .before .before .before .before .args .labels .now) = λ k. omega (arith, c .before .before .before .before .before .before .before .before .before .before .before .before .before .before .before .before .before .before .before .before .shared-slice-known2 .given k) in
+    let l = c .before .before .before .before .before .before .before .before .before .before .before .before .before .before .before .before .before .before .if1 .left ∙ c .before .before .before .before .before .before .before .before .before .before .before .before .before .before .before .before .before .before .before .count .ensures .0 in
+    sym (answer-32 _ _ w k l (c .before .before .before .before .before .unreached .ensures _ (next-of (g .0) (g .1) (c .before .before .before .before .before .before .before .unite .ensures))) (omega arith) (c .before .branch-cycle .ensures .0 _ (gained 128 256 refl (g .0))) (omega arith))
 
-highest-levels-requires : tie.Need-highest-levels-requires
-highest-levels-requires c κs = search needs
+slice-aggregate-join-later : tie.Need-slice-aggregate-join-later
+slice-aggregate-join-later c = search needs
 
-slice-aggregate-loops-check : tie.Need-slice-aggregate-loops-check
-slice-aggregate-loops-check c = search needs
+join-later-requires : tie.Need-join-later-requires
+join-later-requires c κs = search needs
+
+rows-requires : tie.Need-rows-requires
+rows-requires c κs = search needs
 
 loops-check-requires : tie.Need-loops-check-requires
 loops-check-requires c κs =
-    let e = c .before .before .before .before .before .before .before .before .before .before .before .before .before .before .before .count .ensures .0 in
-    (record { passed = c .before .before .before .before .before .before .before .before .before .before .before .before .before .before .before .before .before .before .pre; begins = c .before .before .before .before .before .before .before .before .before .before .before .before .rows .ensures; long = omega arith }, rw e at (c .before .before .before .before .before .before .before .before .branches .ensures), rw e at (c .before .before .before .highest-levels .ensures))
+    let w = well-formed _ (c .before .before .before .before .before .before .before .before .before .before .before .before .before .before .before .before .before .before .before .before .before .before .before .before .before .before .before .before .before .before .pre) in
+    let g = c .before .before .before .before .before .before .before .before .before .before .before .before .before .before .before .before .before .before .before .before .before .collect .ensures in
+    let k : Bytes (c .before .before .before .before .before .before .before .before .before .before .before .before .before .before .before .before .before .before .before .before .before .before .before .before .before .before .before .before .before .before .args .labels .now) = λ k. omega (arith, c .before .before .before .before .before .before .before .before .before .before .before .before .before .before .before .before .before .before .before .before .before .before .before .before .before .before .before .before .shared-slice-known2 .given k) in
+    let l = c .before .before .before .before .before .before .before .before .before .before .before .before .before .before .before .before .before .before .before .before .before .before .before .before .before .before .if1 .left ∙ c .before .before .before .before .before .before .before .before .before .before .before .before .before .before .before .before .before .before .before .before .before .before .before .before .before .before .before .count .ensures .0 in
+    (record { passed = c .before .before .before .before .before .before .before .before .before .before .before .before .before .before .before .before .before .before .before .before .before .before .before .before .before .before .before .before .before .before .pre; begins = c .before .before .before .before .rows .ensures; long = l }, tables-of w k (g .0) (g .2) (c .before .before .before .before .before .before .join-later .ensures), c .before .before .before .before .before .before .before .before .before .branch-cycle .ensures .1, c .before .before .before .before .before .before .before .before .before .branch-cycle .ensures .2)
 
 returns-4 : tie.Need-returns-4
 returns-4 c =
-    let w = well-formed _ (c .before .before .before .before .before .before .before .before .before .before .before .before .before .before .before .before .before .before .before .pre) in
-    answer-loops _ _ w (λ k. omega (arith, c .before .before .before .before .before .before .before .before .before .before .before .before .before .before .before .before .before .shared-slice-known2 .given k)) (omega arith) (c .before .before .before .before .before .before .before .before .before .before .before .unreached .ensures _) (omega arith) (c .before .before .before .before .before .before .branch-cycle .ensures) (omega arith) _ (c .loops-check .ensures)
+    let w = well-formed _ (c .before .before .before .before .before .before .before .before .before .before .before .before .before .before .before .before .before .before .before .before .before .before .before .before .before .before .before .before .before .before .before .pre) in
+    let g = c .before .before .before .before .before .before .before .before .before .before .before .before .before .before .before .before .before .before .before .before .before .before .collect .ensures in
+    let k : Bytes (c .before .before .before .before .before .before .before .before .before .before .before .before .before .before .before .before .before .before .before .before .before .before .before .before .before .before .before .before .before .before .before .args .labels .now) = λ k. omega (arith, c .before .before .before .before .before .before .before .before .before .before .before .before .before .before .before .before .before .before .before .before .before .before .before .before .before .before .before .before .before .shared-slice-known2 .given k) in
+    let l = c .before .before .before .before .before .before .before .before .before .before .before .before .before .before .before .before .before .before .before .before .before .before .before .before .before .before .before .if1 .left ∙ c .before .before .before .before .before .before .before .before .before .before .before .before .before .before .before .before .before .before .before .before .before .before .before .before .before .before .before .before .count .ensures .0 in
+    answer-loops _ _ w k l (c .before .before .before .before .before .before .before .before .before .before .before .before .before .before .unreached .ensures _ (next-of (g .0) (g .1) (c .before .before .before .before .before .before .before .before .before .before .before .before .before .before .before .before .unite .ensures))) (omega (arith, c .before .before .before .before .before .before .before .before .before .before .before .before .before .before .before .before .before .before .before .before .before .before .before .before .before .before .byte .ensures .0, c .before .before .before .before .before .before .before .before .before .before .before .before .before .if2 .left)) (c .before .before .before .before .before .before .before .before .before .before .branch-cycle .ensures .0 _ (gained 128 256 refl (g .0))) (omega (arith, c .before .before .before .before .before .before .before .before .before .before .before .before .before .before .before .before .before .before .before .before .before .before .before .before .before .before .byte .ensures .0, c .before .before .before .before .before .before .before .before .before .if3 .left)) _ (c .loops-check .ensures)
 
 pub check-spec : {M : Type 1} → statement M
 check-spec =
@@ -65,14 +88,17 @@ check-spec =
     count-requires
     returns
     byte-requires
-    rows-requires
+    slice-aggregate-collect
+    slice-aggregate-collect-2
+    slice-aggregate-collect-3
+    collect-requires
+    unite-requires
     unreached-requires
     returns-2
-    branches-requires
-    slice-aggregate-branch-cycle
     branch-cycle-requires
     returns-3
-    highest-levels-requires
-    slice-aggregate-loops-check
+    slice-aggregate-join-later
+    join-later-requires
+    rows-requires
     loops-check-requires
     returns-4)
