@@ -12,7 +12,7 @@ use Rattle.bits.specs.Words.{Has, HasRow}
 use Rattle.theory.specs.Charts.{Any, Branch, Loop}
 use Rattle.chart.specs.Bodies.{WellFormed}
 use Rattle.chart.specs.Steps.{StepsOf}
-use Rattle.witness.specs.Given.{Entry, Enters, EntersHigh, Tables}
+use Rattle.witness.specs.Given.{Origin, Entry, Enters, EntersHigh, Tables}
 use Rattle.witness.specs.Lowest.{NextLevel}
 use Rattle.witness.specs.Tables.{Table, Gains}
 use Rattle.witness.proofs.Labellings.{loop-below}
@@ -34,9 +34,10 @@ next-of {b} {labels} {branches} {entries} G H = table-as (λ x y h l. (
     E = gained 128 256 refl H
 
 -- the tables of the branches and of the levels
-pub tables-of : {b labels branches entered high : List ℕ} → WellFormed b → Bytes labels → Gains (Branch (StepsOf b labels)) (replicate 256 0) branches → Gains (Enters (StepsOf b labels)) (replicate 512 0) entered
-    → Gains (λ (x y : ℕ). (m : ℕ) × (x < m) × (m < 256) × HasRow entered m y) entered high → Tables b labels branches high
-tables-of {b} {labels} {entered = entered} W B G H I = record { of-branches = gained 128 256 refl G; of-levels = table-as (λ l u h g. (to l u g, from l u g)) (table-gains E I) }
+pub tables-of : {b labels branches origins entries entered high : List ℕ} → WellFormed b → Bytes labels → Gains (Branch (StepsOf b labels)) (replicate 256 0) branches → Gains (Origin (StepsOf b labels)) (replicate 256 0) origins → Gains (Entry (StepsOf b labels)) (replicate 256 0) entries
+    → Gains (Enters (StepsOf b labels)) (replicate 512 0) entered
+    → Gains (λ (x y : ℕ). (m : ℕ) × (x < m) × (m < 256) × HasRow entered m y) entered high → Tables b labels branches origins entries high
+tables-of {b} {labels} {entered = entered} W B G K J H I = record { of-branches = gained 128 256 refl G; of-origins = gained 128 256 refl K; of-entries = gained 128 256 refl J; of-levels = table-as (λ l u h g. (to l u g, from l u g)) (table-gains E I) }
   where
     E : Table 256 (Enters (StepsOf b labels)) entered
     E = gained 256 512 refl H
@@ -51,7 +52,7 @@ tables-of {b} {labels} {entered = entered} W B G H I = record { of-branches = ga
         by-cases (ℕ-discrete m l) (λ e. inl (subst (Loop (StepsOf b labels) u) e o)) (λ e. inr (m, omega arith, i, E .exactly m u i g .1 o))
 
 -- a vertex with no entry has no loop
-pub no-loop : {b labels branches high : List ℕ} {v : ℕ} → Tables b labels branches high → v < 128 → ¬ HasRow high 1 v → (l : ℕ) → ¬ Loop (StepsOf b labels) v l
+pub no-loop : {b labels branches origins entries high : List ℕ} {v : ℕ} → Tables b labels branches origins entries high → v < 128 → ¬ HasRow high 1 v → (l : ℕ) → ¬ Loop (StepsOf b labels) v l
 no-loop T h n l o = n (T .of-levels .exactly 1 _ (omega arith) h .1 (l, o, o .0))
 
 -- of the tables of a vertex: the next level is that of a loop, and its set is what the entries lead to

@@ -1,6 +1,6 @@
 -- The checks 33 to 35: of one loop, of the loops of a vertex, of all loops; and how many they are.
 use mathlib.Core.Path.{_≡_, refl, sym, ap, subst}
-use mathlib.Core.Logic.{_≢_, ⊎-elim, by-cases}
+use mathlib.Core.Logic.{_≢_, ⊎-elim, by-cases, _↔_}
 use mathlib.Core.Bool.{false}
 use mathlib.Core.List.{List}
 use Prim.Native.Nat.{ℕ, suc, _+_, _*_, _≤_, _<_}
@@ -9,7 +9,7 @@ use native.Mathlib.Numerals.{add-one}
 use native.Mathlib.Decide.{ℕ-discrete, decLt}
 use native.Mathlib.Omega.{arith}
 use lib.ListN.{length, getD}
-use Rattle.theory.specs.Paths.{Plus}
+use Rattle.theory.specs.Paths.{Edges, Star, here, step, Plus, Avoid}
 use Rattle.theory.specs.Charts.{Loop}
 use Rattle.theory.specs.LoopCharts.{InLoop}
 use Rattle.theory.specs.Checks.{LoopPasses, no-return, end-inside, not-lower, NotLower, fails-33, fails-34, fails-35}
@@ -18,6 +18,7 @@ use Rattle.theory.specs.LabellingTests.{loopList}
 use Rattle.theory.proofs.Paths.{star-apart, plus-below}
 use Rattle.theory.proofs.Tests.{is-false}
 use Rattle.theory.proofs.Checks.{loop-to}
+use Rattle.theory.proofs.Rounds.{body-iff}
 use Rattle.report.specs.declared.Place.{Place}
 use Rattle.report.specs.declared.Place.the-variants.{LoopNoReturn, LoopEndInside, LoopNotLower}
 use Rattle.bits.specs.Bits.{Bytes}
@@ -26,8 +27,10 @@ use Rattle.chart.specs.Bodies.{verticesOf, WellFormed}
 use Rattle.chart.specs.Steps.{StepsOf}
 use Rattle.chart.proofs.Relations.{steps-formed}
 use Rattle.witness.specs.declared.Labelled.the-variants.{Passed, Refused}
+use Rattle.witness.specs.declared.loop_checks.Common.{Common}
 use Rattle.witness.specs.Labellings.{loopsOf}
-use Rattle.witness.specs.Given.{Tables}
+use Rattle.witness.specs.Given.{Tables, Shared}
+use Rattle.witness.specs.Loops.{AtOnce}
 use Rattle.witness.specs.Lowest.{Lowest, NextLevel}
 use Rattle.witness.specs.Tables.{Members}
 use Rattle.witness.specs.Answers.{FailsAt, VertexSaid, LoopsSaid, loopAt, loopsAt}
@@ -36,7 +39,7 @@ use Rattle.witness.proofs.Lowest.{lowest-as}
 use Rattle.witness.proofs.Counting.{rowFrom, row-one, row-skip, row-end, row-high, rowsFrom, rows-one, rows-end}
 
 -- ONE LOOP
-module _ {b labels branches high : List ℕ} (W : WellFormed b) (T : Tables b labels branches high) {v l : ℕ} (at : v < 128) (low : l < 256) {m : List ℕ} (M : Members (Plus (InLoop (StepsOf b labels) v l) v) m) where
+module _ {b labels branches origins entries high : List ℕ} (W : WellFormed b) (T : Tables b labels branches origins entries high) {v l : ℕ} (at : v < 128) (low : l < 256) {m : List ℕ} (M : Members (Plus (InLoop (StepsOf b labels) v l) v) m) where
   pub loop-33 : ¬ Has (getD m 0 0) (getD m 1 0) v → FailsAt (StepsOf b labels) v l (LoopNoReturn v l)
   loop-33 h = (no-return v l, fails-33 (λ p. h (M .exactly v at .1 p)), λ n. refl)
 
@@ -67,6 +70,24 @@ module _ {b labels branches high : List ℕ} (W : WellFormed b) (T : Tables b la
             let i : w < verticesOf b = plus-below (loop-to (steps-formed b labels W) v l) s in
             absurd (found .below w (omega (arith, W .header .vertices-high)) (a, s, (x, o, omega arith))));
       }
+
+-- BY WHAT THE LOOPS OF A VERTEX SHARE
+-- the way to v, up to the first time that it is there
+to-first : {E : Edges} {u v : ℕ} → Star E u v → Star (Avoid v E) u v
+to-first here = here
+to-first {E} {v = v} (step {u = u} e p) = elim (ℕ-discrete u v) [ yes z ↦ subst (λ (x : ℕ). Star (Avoid v E) x v) (sym z) here | no z ↦ step (z, e) (to-first p) ]
+
+module _ {b labels branches origins entries high : List ℕ} (W : WellFormed b) (T : Tables b labels branches origins entries high) {v l lo hi : ℕ} (low : l < 256) (some : 0 < l) {s : Common} (H : Shared (StepsOf b labels) v s) (S : (w : ℕ) → w < 128 → Has lo hi w ↔ StepsOf b labels v l w) where
+  pub passes-shared : AtOnce lo hi high v l s → LoopPasses (StepsOf b labels) v l
+  passes-shared A = record {
+    c33 = body-iff v .1 (A .at, S (A .at) (A .within) .0 (A .entered), to-first (H .back (A .at) (A .within) (A .returns)));
+    c34 = λ p. A .endless (H .whole (A .at) (A .returns) l 0 some (omega arith) p);
+    c35 = λ w a p x o. by-cases (decLt x l) (λ q. q) (λ q.
+        let r = star-apart p a in
+        let i : w < verticesOf b = plus-below (loop-to (steps-formed b labels W) v l) r in
+        let j : w < 128 = omega (arith, W .header .vertices-high) in
+        absurd (A .lower w j (H .whole (A .at) (A .returns) l w some j r) (T .of-levels .exactly l w low j .1 (x, o, omega arith)) a));
+  }
 
 -- THE LOOPS OF A VERTEX
 -- they are at most as many as there are levels

@@ -6,16 +6,18 @@ use Prim.Native.Nat.{ℕ, _+_, _*_, _<_}
 use native.Mathlib.Omega.{arith}
 use lib.ListN.{getD}
 use Rattle.bits.specs.Words.{Has}
-use Rattle.theory.specs.Paths.{Edges, Star, Plus, Avoid}
-use Rattle.theory.specs.Charts.{Any, Branch}
+use Rattle.bits.proofs.Sets.{none}
+use Rattle.theory.specs.Paths.{Edges, Star, here, step, Plus, Avoid}
+use Rattle.theory.specs.Charts.{Steps, Any, Branch}
 use Rattle.theory.specs.LoopCharts.{InLoop}
 use Rattle.theory.specs.Checks.{Unreached, OnBranchCycle}
-use Rattle.theory.proofs.Paths.{star-map, plus-map}
+use Rattle.theory.proofs.Paths.{star-snoc, star-map, plus-of, plus-first, plus-map}
 use Rattle.theory.proofs.Rounds.{body-iff}
 use Rattle.chart.specs.Bodies.{verticesOf, startOf, WellFormed}
 use Rattle.chart.specs.Sets.{Leads, Closed, FirstCycle}
 use Rattle.chart.specs.Steps.{StepsOf}
 use Rattle.chart.proofs.Relations.{steps-formed}
+use Rattle.witness.specs.Given.{Tables, Shared}
 use Rattle.witness.specs.Lowest.{Lowest}
 use Rattle.witness.specs.Tables.{Members, Table}
 use Rattle.witness.proofs.Lowest.{lowest-here, lowest-none}
@@ -82,6 +84,30 @@ module _ {b labels : List ℕ} (W : WellFormed b) where
         (λ w s. step-low s .1)
         R
         (λ w. (body-iff w .1, body-iff w .0))
+
+-- what the loops of v share: nothing yet, or what their entries lead to and what leads to v
+back-along : {a : List ℕ} {E : Edges} {stop u w : ℕ} → ((x y : ℕ) → Leads a x y → E y x) → Star (Avoid stop (Leads a)) u w → Star E w u
+back-along h here = here
+back-along h (step (n, e) p) = star-snoc (back-along h p) (h _ _ e)
+
+pub shared-none : {S : Steps} {v : ℕ} → Shared S v (record { all0 = 0; all1 = 0; back0 = 0; back1 = 0 })
+shared-none = record { back = λ t h k. absurd (none t k); whole = λ t k. absurd (none t k) }
+
+pub shared-sets : {b labels branches origins entries high all back set : List ℕ} {v : ℕ} → WellFormed b → Tables b labels branches origins entries high → v < 128 → Closed branches v (getD entries (2 * v) 0) (getD entries (2 * v + 1) 0) all → Members (λ (w : ℕ). w ≡ v) set → Closed origins 0 (getD set 0 0) (getD set 1 0) back
+    → Shared (StepsOf b labels) v (record { all0 = getD all 0 0; all1 = getD all 1 0; back0 = getD back 0 0; back1 = getD back 1 0 })
+shared-sets {b} {labels} {branches} {origins} {v = v} W T h A M B = record {
+  back = λ t l k. let (u, i, m, p) = B .exactly t l .0 k in subst (Star (Branch (StepsOf b labels)) t) (M .exactly u i .0 m) (back-along whence p);
+  whole = λ t k l w some i p.
+      let (x, s, q) = body-iff w .0 p in
+      let j = step-low W s .1 in
+      A .exactly w i .1 (x, j, T .of-entries .exactly v x h j .1 (l, some, s), star-map onward q);
+}
+  where
+    whence : (x y : ℕ) → Leads origins x y → Branch (StepsOf b labels) y x
+    whence x y e = T .of-origins .exactly x y (e .from) (e .to) .0 (e .has)
+
+    onward : (x y : ℕ) → Avoid v (Branch (StepsOf b labels)) x y → Avoid v (Leads branches) x y
+    onward x y (n, s) = let (i, j) = step-low W s in (n, record { from = i; to = j; has = T .of-branches .exactly x y i j .1 s })
 
 -- every vertex before w but the end is reached
 module _ {b labels r : List ℕ} (W : WellFormed b) (M : Members (Star (Any (StepsOf b labels)) (startOf b)) r) {w : ℕ} (all : (k : ℕ) → 0 < k → k < w → Has (getD r 0 0) (getD r 1 0) k) where

@@ -11,7 +11,7 @@ use Rattle.chart.specs.Bodies.{countOf, fromOf, toOf}
 use Rattle.chart.specs.Leaving.{Rows}
 use Rattle.chart.specs.Steps.{StepsOf}
 use Rattle.chart.proofs.Order.{at-mid, between}
-use Rattle.witness.specs.Given.{Entry, Enters}
+use Rattle.witness.specs.Given.{Origin, Entry, Enters}
 use Rattle.witness.specs.Tables.{Gains, When}
 use Rattle.witness.proofs.Sets.{⊎-map, gains-as, gains-then}
 
@@ -54,6 +54,12 @@ module _ {b labels : List ℕ} {lo : ℕ} (i : ℕ) (low : lo ≤ i) {f l t : �
     λ s. ⊎-map (λ o. o) (λ (p, q, r). (sym q, p, r)) (cases s),
   ))
 
+  pub origin-more : {a r s : List ℕ} → Gains (Origin (Seen b labels lo i)) a r → Gains (When (l ≡ 0) t f) r s → Gains (Origin (Seen b labels lo (i + 1))) a s
+  origin-more G H = gains-then G H (λ x y g. (
+    ⊎-elim before (λ (z, p, q). new q (sym z) p),
+    λ s. ⊎-map (λ o. o) (λ (p, q, r). (sym q, r, p)) (cases s),
+  ))
+
   pub entry-more : {a r s : List ℕ} → Gains (Entry (Seen b labels lo i)) a r → Gains (When (0 < l) f t) r s → Gains (Entry (Seen b labels lo (i + 1))) a s
   entry-more G H = gains-then G H (λ x y g. (
     ⊎-elim (λ (k, h, s). (k, h, before s)) (λ (z, p, q). (l, z, new p refl q)),
@@ -88,6 +94,9 @@ module _ {b labels : List ℕ} {n : ℕ} (e : n ≡ countOf b) where
 
   pub branch-all : {a r : List ℕ} → Gains (Branch (Seen b labels 0 n)) a r → Gains (Branch (StepsOf b labels)) a r
   branch-all = gains-as (λ x y g. (seen-all, all-seen))
+
+  pub origin-all : {a r : List ℕ} → Gains (Origin (Seen b labels 0 n)) a r → Gains (Origin (StepsOf b labels)) a r
+  origin-all = gains-as (λ x y g. (seen-all, all-seen))
 
   pub entry-all : {a r : List ℕ} → Gains (Entry (Seen b labels 0 n)) a r → Gains (Entry (StepsOf b labels)) a r
   entry-all = gains-as (λ x y g. (λ (k, h, s). (k, h, seen-all s), λ (k, h, s). (k, h, all-seen s)))

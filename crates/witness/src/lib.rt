@@ -34,20 +34,28 @@ pub fn check(body: &[u8], labels: &[u8]) -> Labelled
     }
     let n = byte(body, 0);
     let mut branches = [0u64; 256];
+    let mut origins = [0u64; 256];
     let mut entries = [0u64; 256];
     let mut high = [0u64; 512];
-    collect(body, labels, t, &mut branches, &mut entries, &mut high);
+    collect(
+        body,
+        labels,
+        t,
+        &mut branches,
+        &mut origins,
+        &mut entries,
+        &mut high,
+    );
     let next = unite(&branches, &entries);
     let p = unreached(body, &next);
     if p < n {
         return Labelled::Refused(Place::Unreached(p));
     }
-    let mut after = [0u64; 256];
-    let c = branch_cycle(body, &branches, &mut after);
+    let c = branch_cycle(body, &branches);
     if c < n {
         return Labelled::Refused(Place::BranchCycle(c));
     }
     join_later(&mut high);
     let rows = chart::rows(body);
-    loops_check(body, labels, &rows, &branches, &after, c, &high)
+    loops_check(body, labels, &rows, &branches, &origins, &entries, &high)
 }

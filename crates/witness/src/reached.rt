@@ -12,14 +12,13 @@ ghost use Rattle.theory.specs.Charts.{Any, Branch};
 ghost use Rattle.theory.specs.Checks.{Unreached, OnBranchCycle};
 ghost use Rattle.chart.specs.Bodies.{verticesOf, startOf};
 ghost use Rattle.chart.specs.Checks.{checkOf};
-ghost use Rattle.chart.specs.Sets.{Known};
 ghost use Rattle.chart.specs.Steps.{StepsOf};
 ghost use Rattle.witness.specs.Lowest.{Lowest};
 ghost use Rattle.witness.specs.Tables.{Members, Table};
 use report::Stage;
 
 // The set of one vertex.
-fn only(vertex: usize) -> [u64; 2]
+pub(crate) fn only(vertex: usize) -> [u64; 2]
     requires { ⌜ vertex < 128 ⌝ }
     ensures { λ r. ⌜ Members (λ (w : ℕ). w ≡ vertex) r ⌝ }
 {
@@ -46,10 +45,11 @@ pub(crate) fn unreached(body: &[u8], next: &[u64; 256]) -> usize
     w
 }
 
-// 32: the lowest vertex on a branch cycle, or V. What the branches of each vertex below it reach comes into `after`.
-pub(crate) fn branch_cycle(body: &[u8], branches: &[u64; 256], after: &mut [u64; 256]) -> usize
-    requires { ⌜ (checkOf (now body) ≡ Stage.Passed) × (length (now branches) ≡ 256) × (length (now after) ≡ 256) ⌝ }
-    ensures { λ r. ⌜ ((labels : List ℕ) → Table 128 (Branch (StepsOf (now (body .entry)) labels)) (now (branches .entry)) → Lowest (OnBranchCycle (StepsOf (now (body .entry)) labels)) (verticesOf (now (body .entry))) r) × (length (now (after .exit)) ≡ 256) × Known (now (branches .entry)) (now (after .exit)) r ⌝ }
+// 32: the lowest vertex on a branch cycle, or V.
+pub(crate) fn branch_cycle(body: &[u8], branches: &[u64; 256]) -> usize
+    requires { ⌜ (checkOf (now body) ≡ Stage.Passed) × (length (now branches) ≡ 256) ⌝ }
+    ensures { λ r. ⌜ ((labels : List ℕ) → Table 128 (Branch (StepsOf (now (body .entry)) labels)) (now (branches .entry)) → Lowest (OnBranchCycle (StepsOf (now (body .entry)) labels)) (verticesOf (now (body .entry))) r) ⌝ }
 {
-    cycle(branches, after, byte(body, 0))
+    let mut after = [0u64; 256];
+    cycle(branches, &mut after, byte(body, 0))
 }

@@ -11,25 +11,27 @@ ghost use Rattle.theory.specs.Charts.{Branch};
 ghost use Rattle.chart.specs.Bodies.{countOf};
 ghost use Rattle.chart.specs.Checks.{checkOf};
 ghost use Rattle.chart.specs.Steps.{StepsOf};
-ghost use Rattle.witness.specs.Given.{Entry, Enters};
+ghost use Rattle.witness.specs.Given.{Origin, Entry, Enters};
 ghost use Rattle.witness.specs.Tables.{Table, Gains, When};
 use report::Stage;
 
-// Puts a transition into the tables: where it leads into that of the branches or of the entries,
-// and its vertex to those with an entry of its level.
+// Puts a transition into the tables: where it leads into that of the branches or of the entries;
+// for a branch also whence it comes, for an entry its vertex to those with an entry of its level.
 fn enter(
     branches: &mut [u64],
+    origins: &mut [u64],
     entries: &mut [u64],
     entered: &mut [u64],
     u: usize,
     label: usize,
     w: usize,
 )
-    requires { ⌜ (length (now branches) ≡ 256) × (length (now entries) ≡ 256) × (length (now entered) ≡ 512) × (u < 128) × (label < 256) × (w < 128) ⌝ }
-    ensures { λ _. ⌜ Gains (When (label ≡ 0) u w) (now (branches .entry)) (now (branches .exit)) × Gains (When (0 < label) u w) (now (entries .entry)) (now (entries .exit)) × Gains (When (0 < label) label u) (now (entered .entry)) (now (entered .exit)) ⌝ }
+    requires { ⌜ (length (now branches) ≡ 256) × (length (now origins) ≡ 256) × (length (now entries) ≡ 256) × (length (now entered) ≡ 512) × (u < 128) × (label < 256) × (w < 128) ⌝ }
+    ensures { λ _. ⌜ Gains (When (label ≡ 0) u w) (now (branches .entry)) (now (branches .exit)) × Gains (When (label ≡ 0) w u) (now (origins .entry)) (now (origins .exit)) × Gains (When (0 < label) u w) (now (entries .entry)) (now (entries .exit)) × Gains (When (0 < label) label u) (now (entered .entry)) (now (entered .exit)) ⌝ }
 {
     if label == 0 {
         insert(branches, u, w);
+        insert(origins, w, u);
         return;
     }
     insert(entries, u, w);
@@ -42,17 +44,18 @@ pub(crate) fn collect(
     labels: &[u8],
     n: usize,
     branches: &mut [u64],
+    origins: &mut [u64],
     entries: &mut [u64],
     entered: &mut [u64],
 )
-    requires { ⌜ (checkOf (now body) ≡ Stage.Passed) × (n ≡ countOf (now body)) × (length (now labels) ≡ n) × (length (now branches) ≡ 256) × (length (now entries) ≡ 256) × (length (now entered) ≡ 512) ⌝ }
-    ensures { λ _. ⌜ Gains (Branch (StepsOf (now (body .entry)) (now (labels .entry)))) (now (branches .entry)) (now (branches .exit)) × Gains (Entry (StepsOf (now (body .entry)) (now (labels .entry)))) (now (entries .entry)) (now (entries .exit)) × Gains (Enters (StepsOf (now (body .entry)) (now (labels .entry)))) (now (entered .entry)) (now (entered .exit)) ⌝ }
+    requires { ⌜ (checkOf (now body) ≡ Stage.Passed) × (n ≡ countOf (now body)) × (length (now labels) ≡ n) × (length (now branches) ≡ 256) × (length (now origins) ≡ 256) × (length (now entries) ≡ 256) × (length (now entered) ≡ 512) ⌝ }
+    ensures { λ _. ⌜ Gains (Branch (StepsOf (now (body .entry)) (now (labels .entry)))) (now (branches .entry)) (now (branches .exit)) × Gains (Origin (StepsOf (now (body .entry)) (now (labels .entry)))) (now (origins .entry)) (now (origins .exit)) × Gains (Entry (StepsOf (now (body .entry)) (now (labels .entry)))) (now (entries .entry)) (now (entries .exit)) × Gains (Enters (StepsOf (now (body .entry)) (now (labels .entry)))) (now (entered .entry)) (now (entered .exit)) ⌝ }
 {
     let mut i: usize = 0;
     while i < n {
         let u = byte(body, 4 * i + 4);
         let w = byte(body, 4 * i + 4 + 2);
-        enter(branches, entries, entered, u, byte(labels, i), w);
+        enter(branches, origins, entries, entered, u, byte(labels, i), w);
         i += 1;
     }
 }

@@ -5,10 +5,12 @@ use Rattle.bits.specs.Bits.{Bytes}
 use Rattle.chart.specs.Bodies.{WellFormed}
 use Rattle.chart.specs.Steps.{StepsOf}
 use Rattle.chart.proofs.Checks.{well-formed}
+use Rattle.witness.specs.Given.{Shared}
 use Rattle.witness.specs.Loops.{LoopSaid}
 use Rattle.witness.specs.Tables.{Table}
 use Rattle.witness.proofs.Given.{loop-next, loop-targets}
 use Rattle.witness.proofs.Loops.{VertexTo, vertex-begin, vertex-more, vertex-small, vertex-end, vertex-stop}
+use Rattle.witness.proofs.Reaching.{shared-none}
 use Rattle.witness.proofs.Seen.{Levels, Targets}
 use Rattle.witness.proofs.Sets.{gained}
 use borrow.Author.Needs.{needs}
@@ -16,10 +18,10 @@ use Rattle.witness.proofs.loop_checks.entries_check.Statement.{statemen
 use Rattle.witness.proofs.loop_checks.entries_check.Tie as tie
 
 abbrev Inv-loop : tie.InvT-loop
-Inv-loop body labels rows branches after known high v levels targets number₀ level₀ number level = WellFormed body × Bytes labels × Table 2 (Levels (StepsOf body labels) v) levels × Table 256 (Targets (StepsOf body labels) v) targets × VertexTo body labels v number level
+Inv-loop body labels rows branches origins entries high v levels targets s₀ number₀ level₀ s number level = WellFormed body × Bytes labels × Table 2 (Levels (StepsOf body labels) v) levels × Table 256 (Targets (StepsOf body labels) v) targets × Shared (StepsOf body labels) v s × VertexTo body labels v number level
 
 abbrev μ-loop : tie.MeasureT-loop
-μ-loop body labels rows branches after known high v levels targets number₀ level₀ number level = 256 - level
+μ-loop body labels rows branches origins entries high v levels targets s₀ number₀ level₀ s number level = 256 - level
 
 slice-aggregate-sort-entries : tie.Need-slice-aggregate-sort-entries Inv-loop μ-loop
 slice-aggregate-sort-entries c = search needs
@@ -40,61 +42,70 @@ loop-holds c =
     let k : Bytes (a .labels .now) = λ k. omega (arith, c .before .before .before .before .before .before .before .shared-slice-known2 .given k) in
     let g = c .before .before .before .before .sort-entries .ensures in
     let t = gained {P = Levels (StepsOf (a .body .now) (a .labels .now)) (a .v)} 2 4 refl (g .0) in
-    (w, k, t, gained {P = Targets (StepsOf (a .body .now) (a .labels .now)) (a .v)} 256 512 refl (g .1), vertex-begin w k _ (loop-next t (c .next-level .ensures)))
+    (w, k, t, gained {P = Targets (StepsOf (a .body .now) (a .labels .now)) (a .v)} 256 512 refl (g .1), shared-none, vertex-begin w k _ (loop-next t (c .next-level .ensures)))
 
-mul-loop-check : tie.Need-mul-loop-check Inv-loop μ-loop
-mul-loop-check c = search needs
+share-requires : tie.Need-share-requires Inv-loop μ-loop
+share-requires c κs = let p = c .before .before .before .before .before .before .before .before .before .before .before .pre in (p .1 .of-branches .long, p .1 .of-origins .long, p .1 .of-entries .long, p .2)
 
-mul-loop-check-2 : tie.Need-mul-loop-check-2 Inv-loop μ-loop
-mul-loop-check-2 c = search needs
+mul-lo : tie.Need-mul-lo Inv-loop μ-loop
+mul-lo c = search needs
 
-array-read-loop-check : tie.Need-array-read-loop-check Inv-loop μ-loop
-array-read-loop-check c = let t = c .before .loop .inv .3 .long in omega arith
+mul-lo-2 : tie.Need-mul-lo-2 Inv-loop μ-loop
+mul-lo-2 c = search needs
 
-mul-loop-check-3 : tie.Need-mul-loop-check-3 Inv-loop μ-loop
-mul-loop-check-3 c = search needs
+array-read-lo : tie.Need-array-read-lo Inv-loop μ-loop
+array-read-lo c = let t = c .before .before .loop .inv .3 .long in omega arith
 
-add-loop-check : tie.Need-add-loop-check Inv-loop μ-loop
-add-loop-check c = search needs
+mul-hi : tie.Need-mul-hi Inv-loop μ-loop
+mul-hi c = search needs
 
-mul-loop-check-4 : tie.Need-mul-loop-check-4 Inv-loop μ-loop
-mul-loop-check-4 c = search needs
+add-hi : tie.Need-add-hi Inv-loop μ-loop
+add-hi c = search needs
 
-array-read-loop-check-2 : tie.Need-array-read-loop-check-2 Inv-loop μ-loop
-array-read-loop-check-2 c = let t = c .before .loop .inv .3 .long in omega arith
+mul-hi-2 : tie.Need-mul-hi-2 Inv-loop μ-loop
+mul-hi-2 c = search needs
 
-loop-check-requires : tie.Need-loop-check-requires Inv-loop μ-loop
-loop-check-requires c κs = let p = c .before .before .before .before .before .before .before .before .before .before .before .pre in (p .1 .of-branches .long, p .1 .of-levels .long, p .2, c .loop-test .taken, p .3, p .4)
+array-read-hi : tie.Need-array-read-hi Inv-loop μ-loop
+array-read-hi c = let t = c .before .before .loop .inv .3 .long in omega arith
+
+quick-check-requires : tie.Need-quick-check-requires Inv-loop μ-loop
+quick-check-requires c κs = let p = c .before .before .before .before .before .before .before .before .before .before .before .before .pre in (p .1 .of-branches .long, p .1 .of-levels .long, p .2, c .before .loop-test .taken)
 
 enum-known-place : tie.Need-enum-known-place Inv-loop μ-loop
 enum-known-place c = search needs
 
 returns : tie.Need-returns Inv-loop μ-loop
-returns c = let i = c .before .before .before .before .before .loop .inv in
-    let l = c .before .before .before .before .loop-test .taken in
-    let said = c .before .before .before .loop-check .ensures _ _ (i .0) (c .before .before .before .before .before .before .before .before .before .before .before .before .before .before .before .pre .1) (loop-targets (i .3) (i .4 .low) l) in
-    vertex-stop (i .4) l (subst (LoopSaid _ _ _) (c .before .place .given .1) said)
+returns c =
+    let p = c .before .before .before .before .before .before .before .before .before .before .before .before .before .before .before .before .pre in
+    let i = c .before .before .before .before .before .before .loop .inv in
+    let l = c .before .before .before .before .before .loop-test .taken in
+    let h = c .before .before .before .before .share .ensures _ _ _ (i .0) (p .1) (i .4) in
+    let said = c .before .before .before .quick-check .ensures _ _ _ _ (i .0) (p .1) h (i .5 .low) (loop-targets (i .3) (i .5 .low) l) in
+    vertex-stop (i .5) l (subst (LoopSaid _ _ _) (c .before .place .given .1) said)
 
 enum-told : tie.Need-enum-told Inv-loop μ-loop
 enum-told c = search needs
 
 add-number : tie.Need-add-number Inv-loop μ-loop
-add-number c = let s = vertex-small (c .before .before .before .before .loop .inv .4) in omega arith
+add-number c = let s = vertex-small (c .before .before .before .before .before .loop .inv .5) in omega arith
 
 next-level-requires-2 : tie.Need-next-level-requires-2 Inv-loop μ-loop
-next-level-requires-2 c κs = (c .before .before .before .before .before .loop .inv .2 .long, c .before .before .before .before .loop-test .taken)
+next-level-requires-2 c κs = (c .before .before .before .before .before .before .loop .inv .2 .long, c .before .before .before .before .before .loop-test .taken)
 
 loop-less : tie.Need-loop-less Inv-loop μ-loop
 loop-less c = omega (arith, c .next-level2 .ensures .above)
 
 loop-again : tie.Need-loop-again Inv-loop μ-loop
-loop-again c = let i = c .before .before .before .before .before .before .loop .inv in
-    let l = c .before .before .before .before .before .loop-test .taken in
-    let said = c .before .before .before .before .loop-check .ensures _ _ (i .0) (c .before .before .before .before .before .before .before .before .before .before .before .before .before .before .before .before .pre .1) (loop-targets (i .3) (i .4 .low) l) in
-    (i .0, i .1, i .2, i .3, vertex-more (i .0) (i .1) _ (i .4) l (subst (LoopSaid _ _ _) (c .before .before .enum-told .given .1) said) (loop-next (i .2) (c .next-level2 .ensures)))
+loop-again c =
+    let p = c .before .before .before .before .before .before .before .before .before .before .before .before .before .before .before .before .before .pre in
+    let i = c .before .before .before .before .before .before .before .loop .inv in
+    let l = c .before .before .before .before .before .before .loop-test .taken in
+    let h = c .before .before .before .before .before .share .ensures _ _ _ (i .0) (p .1) (i .4) in
+    let said = c .before .before .before .before .quick-check .ensures _ _ _ _ (i .0) (p .1) h (i .5 .low) (loop-targets (i .3) (i .5 .low) l) in
+    (i .0, i .1, i .2, i .3, h, vertex-more (i .0) (i .1) _ (i .5) l (subst (LoopSaid _ _ _) (c .before .before .enum-told .given .1) said) (loop-next (i .2) (c .next-level2 .ensures)))
 
 returns-2 : tie.Need-returns-2 Inv-loop μ-loop
-returns-2 c = let i = c .before .loop .inv in vertex-end (i .4) (i .0) (i .1) (c .loop-test .left)
+returns-2 c = let i = c .before .loop .inv in vertex-end (i .5) (i .0) (i .1) (c .loop-test .left)
 
 pub entries-check-spec : {M : Type 1} → statement M
 entries-check-spec =
@@ -107,14 +118,15 @@ entries-check-spec =
     sort-entries-requires
     next-level-requires
     loop-holds
-    mul-loop-check
-    mul-loop-check-2
-    array-read-loop-check
-    mul-loop-check-3
-    add-loop-check
-    mul-loop-check-4
-    array-read-loop-check-2
-    loop-check-requires
+    share-requires
+    mul-lo
+    mul-lo-2
+    array-read-lo
+    mul-hi
+    add-hi
+    mul-hi-2
+    array-read-hi
+    quick-check-requires
     enum-known-place
     returns
     enum-told

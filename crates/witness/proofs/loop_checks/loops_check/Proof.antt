@@ -10,10 +10,10 @@ use Rattle.witness.proofs.loop_checks.loops_check.Statement.{statement}
 use Rattle.witness.proofs.loop_checks.loops_check.Tie as tie
 
 abbrev Inv-loop : tie.InvT-loop
-Inv-loop body labels rows branches after known high n loops₀ v₀ loops v = WellFormed body × (n ≡ verticesOf body) × LoopsTo body labels loops v
+Inv-loop body labels rows branches origins entries high n loops₀ v₀ loops v = WellFormed body × (n ≡ verticesOf body) × LoopsTo body labels loops v
 
 abbrev μ-loop : tie.MeasureT-loop
-μ-loop body labels rows branches after known high n loops₀ v₀ loops v = n - v
+μ-loop body labels rows branches origins entries high n loops₀ v₀ loops v = n - v
 
 byte-requires : tie.Need-byte-requires Inv-loop μ-loop
 byte-requires c κs = let w = well-formed _ (c .before .before .pre .0 .passed) .header .long in omega arith
@@ -22,7 +22,7 @@ loop-holds : tie.Need-loop-holds Inv-loop μ-loop
 loop-holds c = (well-formed _ (c .before .before .before .pre .0 .passed), c .byte .ensures .0, loops-begin)
 
 vertex-check-requires : tie.Need-vertex-check-requires Inv-loop μ-loop
-vertex-check-requires c κs = let p = c .before .before .before .before .before .pre in (p .0, p .1, omega (arith, c .before .loop .inv .0 .header .vertices-high), p .2, p .3)
+vertex-check-requires c κs = let p = c .before .before .before .before .before .pre in (p .0, p .1, omega (arith, c .before .loop .inv .0 .header .vertices-high))
 
 enum-known-place : tie.Need-enum-known-place Inv-loop μ-loop
 enum-known-place c = search needs
