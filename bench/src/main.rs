@@ -22,9 +22,9 @@ fn proved(file: &[u8]) -> Answer {
 
 type Check = fn(&[u8]) -> Answer;
 
-const RUNS: usize = 15;
+const RUNS: usize = 31;
 /// Seconds that one side is timed for in one run, at least.
-const SPAN: f64 = 0.04;
+const SPAN: f64 = 0.02;
 const MIXED: u64 = 2_000;
 
 /// The yard with one transition more, in its place.
