@@ -3,7 +3,7 @@ use mathlib.Core.Path.{_≡_, refl, sym, ap, _∙_, subst}
 use mathlib.Core.Logic.{_≢_, _⊎_, inl, inr, _↔_}
 use mathlib.Core.Bool.{Bool, true, false, not, _&&_, _||_, false≢true}
 use mathlib.Core.List.{List, [], _∷_}
-use Prim.Native.Nat.{ℕ, _+_, _*_, _/_, _%_, _^_, _≤_, _<_}
+use Prim.Native.Nat.{ℕ, _+_, _-_, _*_, _/_, _%_, _^_, _≤_, _<_}
 use native.Mathlib.Nat.{eq-or-lt-of-le}
 use native.Mathlib.Omega.{arith}
 use native.Mathlib.Decide.{ℕ-discrete}
@@ -17,7 +17,7 @@ use Rattle.bits.proofs.Sets.{zero-off, none, has-within, has-either, with-low, 
 use Rattle.theory.specs.Paths.{Edges, Star, here, step, Plus, last, more, Avoid}
 use Rattle.theory.proofs.Paths.{star-then, star-snoc, star-map, plus-of, plus-snoc}
 use Rattle.chart.specs.declared.sets.Search.{Search}
-use Rattle.chart.specs.Sets.{Leads, FromSet, Closed, Known, RowPut, FirstCycle, Words, Finished, Jumps, Either, Added, Jumped, Visited, Stepped}
+use Rattle.chart.specs.Sets.{Leads, FromSet, Closed, Known, turnOf, RowPut, FirstCycle, Words, Finished, Jumps, Either, Added, Jumped, Visited, Stepped}
 
 -- the bits of b are those of x that are not y's
 abbrev pub But : ℕ → ℕ → ℕ → Type 0
@@ -97,8 +97,8 @@ avoids stop (last e) n f = step (n, e) here
 avoids stop (more {w = x} e p) n f = step (n, e) (avoids stop p (f x (last e)) (λ z q. f z (more e q)))
 
 -- all that w reaches is seen and past
-pub visit-jump : (a after : List ℕ) (k stop w : ℕ) (s r : Search) → Known a after k → w < 128 → w ≢ stop → Jumps after k stop w → Jumped after w s r → Visited a stop w s r
-visit-jump a after k stop w s r K l n j A = record {
+pub visit-jump : (a after : List ℕ) (k₀ k₁ stop w : ℕ) (s r : Search) → Known a after k₀ k₁ → w < 128 → w ≢ stop → Jumps after k₀ k₁ stop w → Jumped after w s r → Visited a stop w s r
+visit-jump a after k₀ k₁ stop w s r K l n j A = record {
   grows = λ y m. seen y .1 (inl m);
   sound = λ y m o. from y m (seen y .0 o);
   passed = λ x y m o p e. on x y m o (past x .0 p) e;
@@ -212,20 +212,17 @@ searched a stop lo hi s I F = record { long = refl; exactly = λ w h. (I .sound 
     along here h k = k
     along {u} (step {w = x} e p) h k = along p (e .1 .to) (I .passed u x h (e .1 .to) (past u k) e)
 
-pub jumps-law : (after : List ℕ) (k stop w : ℕ) (b : Bool) → (b ≡ true) ↔ HasRow after w stop → ltb w k && not b ≡ true → Jumps after k stop w
-jumps-law after k stop w b B h = pick (ltb w k) b refl refl h
+pub jumps-law : (after : List ℕ) (k₀ k₁ stop w : ℕ) (p b : Bool) → (p ≡ true) ↔ Has k₀ k₁ w → (b ≡ true) ↔ HasRow after w stop → p && not b ≡ true → Jumps after k₀ k₁ stop w
+jumps-law after k₀ k₁ stop w p b A B h = pick p b refl refl h
   where
-    pick : (p q : Bool) → ltb w k ≡ p → b ≡ q → p && not q ≡ true → Jumps after k stop w
-    pick true false e f h = (ltb-true w k e, λ r. false≢true (sym f ∙ B .1 r))
+    pick : (x q : Bool) → p ≡ x → b ≡ q → x && not q ≡ true → Jumps after k₀ k₁ stop w
+    pick true false e f h = (A .0 e, λ r. false≢true (sym f ∙ B .1 r))
     pick true true e f h = absurd (false≢true h)
     pick false q e f h = absurd (false≢true h)
 
 -- where nothing is known, nothing is asked of the table of what is
-pub known-none : (a after : List ℕ) → Known a after 0
-known-none a after = record { exactly = λ x y h. absurd (not-lt-zero h) }
-  where
-    not-lt-zero : {n : ℕ} → n < 0 → ⊥
-    not-lt-zero h = omega (arith, h)
+pub known-none : (a after : List ℕ) → Known a after 0 0
+known-none a after = record { exactly = λ x y h. absurd (none x h) }
 
 -- a set of a table is stored
 pub row-put : (a : List ℕ) (w lo hi : ℕ) → length a ≡ 256 → w < 128 → RowPut a w lo hi (set (set a (2 * w) lo) (2 * w + 1) hi)
@@ -259,9 +256,22 @@ module _ (a : List ℕ) (w : ℕ) (r : List ℕ) (l : w < 128) (C : Closed a w (
     plus-met {y} (last e) = C .exactly y (e .to) .1 (y, e .to, e .has, here)
     plus-met (more {w = z} e p) = along p (e .to) (C .exactly z (e .to) .1 (z, e .to, e .has, here))
 
-    pub known-more : (after put : List ℕ) → Known a after w → RowPut after w (getD r 0 0) (getD r 1 0) put → Known a put (w + 1)
-    known-more after put K P = record { exactly = λ x y h i j. pick x y i j (eq-or-lt-of-le (omega (arith, h))) }
+    pub known-more : (after put : List ℕ) (k₀ k₁ m₀ m₁ : ℕ) → Known a after k₀ k₁ → RowPut after w (getD r 0 0) (getD r 1 0) put → ((x : ℕ) → x < 128 → Has m₀ m₁ x → Has k₀ k₁ x ⊎ (x ≡ w)) → Known a put m₀ m₁
+    known-more after put k₀ k₁ m₀ m₁ K P G = record { exactly = λ x y h i j. pick x y i j (G x i h) (ℕ-discrete x w) }
       where
-        pick : (x y : ℕ) → x < 128 → y < 128 → (x ≡ w) ⊎ (x < w) → HasRow put x y ↔ Plus (Leads a) x y
-        pick x y i j (inl e) = subst (λ (z : ℕ). HasRow put z y ↔ Plus (Leads a) z y) (sym e) ((λ k. met-plus y j (rw (P .low, P .high) at k)), (λ p. rw (P .low, P .high) (plus-met p)))
-        pick x y i j (inr h) = let o = P .others x (λ e. omega (arith, e, h)) in let k = K .exactly x y h i j in ((λ z. k .0 (rw (o .0, o .1) at z)), (λ p. rw (o .0, o .1) (k .1 p)))
+        here-row : (x y : ℕ) → y < 128 → x ≡ w → HasRow put x y ↔ Plus (Leads a) x y
+        here-row x y j e = subst (λ (z : ℕ). HasRow put z y ↔ Plus (Leads a) z y) (sym e) ((λ k. met-plus y j (rw (P .low, P .high) at k)), (λ p. rw (P .low, P .high) (plus-met p)))
+
+        pick : (x y : ℕ) → x < 128 → y < 128 → (Has k₀ k₁ x ⊎ (x ≡ w)) → Dec (x ≡ w) → HasRow put x y ↔ Plus (Leads a) x y
+        pick x y i j g (yes e) = here-row x y j e
+        pick x y i j (inr e) (no n) = here-row x y j e
+        pick x y i j (inl h) (no n) = let o = P .others x n in let k = K .exactly x y h i j in ((λ z. k .0 (rw (o .0, o .1) at z)), (λ p. rw (o .0, o .1) (k .1 p)))
+
+-- the turns of the first n vertices are theirs, and each has one
+pub turn-low : (i n : ℕ) (down : Bool) → i < n → turnOf i n down < n
+turn-low i n true h = omega (arith, h)
+turn-low i n false h = h
+
+pub turned : (k n : ℕ) (down : Bool) → k < n → (j : ℕ) × (j < n) × (turnOf j n down ≡ k)
+turned k n true h = (n - 1 - k, omega (arith, h), omega (arith, h))
+turned k n false h = (k, h, refl)

@@ -1,7 +1,8 @@
 -- Reachability along sets of successors: set x of a table has what x leads to.
-use Prim.Native.Nat.{ℕ, _+_, _*_, _^_, _≤_, _<_}
+use Prim.Native.Nat.{ℕ, _+_, _-_, _*_, _^_, _≤_, _<_}
 use mathlib.Core.Path.{_≡_}
 use mathlib.Core.Logic.{_≢_, _⊎_, _↔_}
+use mathlib.Core.Bool.{Bool, cond}
 use mathlib.Core.List.{List}
 use lib.ListN.{length, getD}
 use Rattle.theory.specs.Paths.{Edges, Star, Plus, Avoid}
@@ -23,9 +24,13 @@ pub record Closed (a : List ℕ) (stop lo hi : ℕ) (r : List ℕ) : Type 0 wher
   pub long : length r ≡ 2
   pub exactly : (w : ℕ) → w < 128 → Has (getD r 0 0) (getD r 1 0) w ↔ FromSet (Avoid stop (Leads a)) lo hi w
 
--- of the vertices below k, set x of after has what x reaches by one step or more
-pub record Known (a after : List ℕ) (k : ℕ) : Type 0 where
-  pub exactly : (x y : ℕ) → x < k → x < 128 → y < 128 → HasRow after x y ↔ Plus (Leads a) x y
+-- for each x of the set (k₀, k₁), set x of after has what x reaches by one step or more
+pub record Known (a after : List ℕ) (k₀ k₁ : ℕ) : Type 0 where
+  pub exactly : (x y : ℕ) → Has k₀ k₁ x → x < 128 → y < 128 → HasRow after x y ↔ Plus (Leads a) x y
+
+-- the vertex of turn i, from above or from below
+abbrev pub turnOf : ℕ → ℕ → Bool → ℕ
+turnOf i n down = cond down (n - 1 - i) i
 
 -- r is the lowest of the first n vertices that reaches itself, or n
 pub record FirstCycle (a : List ℕ) (n r : ℕ) : Type 0 where
@@ -54,8 +59,8 @@ abbrev pub Finished : Search → Type 0
 Finished s = ((j : ℕ) → On (s .seen0) j → On (s .past0) j) × ((j : ℕ) → On (s .seen1) j → On (s .past1) j)
 
 -- all that w reaches is known, and stop is not among it
-abbrev pub Jumps : List ℕ → ℕ → ℕ → ℕ → Type 0
-Jumps after k stop w = (w < k) × (¬ HasRow after w stop)
+abbrev pub Jumps : List ℕ → ℕ → ℕ → ℕ → ℕ → Type 0
+Jumps after k₀ k₁ stop w = Has k₀ k₁ w × (¬ HasRow after w stop)
 
 -- the words of r are those of x and of y
 abbrev pub Either : ℕ → ℕ → ℕ → Type 0

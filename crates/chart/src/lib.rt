@@ -244,6 +244,6 @@ pub fn reach(body: &[u8], keep: &[u8], stop: usize, marks: [u8; 128]) -> [u8; 12
 {
     let table = kept_table(body, keep);
     let from = marked_set(&marks);
-    let reached = closure(&table, &table, 0, stop, from[0], from[1]);
+    let reached = closure(&table, &table, 0, 0, stop, from[0], from[1]);
     set_marks(reached[0], reached[1])
 }

@@ -83,9 +83,17 @@ fn share(
     if number != 1 {
         return s;
     }
-    let all = closure(branches, branches, 0, v, entries[2 * v], entries[2 * v + 1]);
+    let all = closure(
+        branches,
+        branches,
+        0,
+        0,
+        v,
+        entries[2 * v],
+        entries[2 * v + 1],
+    );
     let start = only(v);
-    let back = closure(origins, origins, 0, 0, start[0], start[1]);
+    let back = closure(origins, origins, 0, 0, 0, start[0], start[1]);
     Common {
         all0: all[0],
         all1: all[1],
@@ -120,7 +128,7 @@ fn loop_check(
     requires { ⌜ (length (now branches) ≡ 256) × (length (now high) ≡ 512) × (v < 128) × (level < 256) ⌝ }
     ensures { λ r. ⌜ ((b labels origins entries : List ℕ) → WellFormed b → Tables b labels (now (branches .entry)) origins entries (now (high .entry)) → ((w : ℕ) → w < 128 → Has lo hi w ↔ StepsOf b labels v level w) → LoopSaid (StepsOf b labels) v level r) ⌝ }
 {
-    let inside = closure(branches, branches, 0, v, lo, hi);
+    let inside = closure(branches, branches, 0, 0, v, lo, hi);
     if !holds(inside[0], inside[1], v) {
         return Stage::Refused(Place::LoopNoReturn(v, level));
     }

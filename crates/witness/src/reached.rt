@@ -34,7 +34,7 @@ pub(crate) fn unreached(body: &[u8], next: &[u64; 256]) -> usize
 {
     let n = byte(body, 0);
     let start = only(byte(body, 1));
-    let reached = closure(next, next, 0, 0, start[0], start[1]);
+    let reached = closure(next, next, 0, 0, 0, start[0], start[1]);
     let mut w: usize = 1;
     while w < n {
         if !holds(reached[0], reached[1], w) {
@@ -50,6 +50,5 @@ pub(crate) fn branch_cycle(body: &[u8], branches: &[u64; 256]) -> usize
     requires { ⌜ (checkOf (now body) ≡ Stage.Passed) × (length (now branches) ≡ 256) ⌝ }
     ensures { λ r. ⌜ ((labels : List ℕ) → Table 128 (Branch (StepsOf (now (body .entry)) labels)) (now (branches .entry)) → Lowest (OnBranchCycle (StepsOf (now (body .entry)) labels)) (verticesOf (now (body .entry))) r) ⌝ }
 {
-    let mut after = [0u64; 256];
-    cycle(branches, &mut after, byte(body, 0))
+    cycle(branches, byte(body, 0))
 }

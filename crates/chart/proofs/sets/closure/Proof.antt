@@ -8,10 +8,10 @@ use Rattle.chart.proofs.sets.closure.Statement.{statement}
 use Rattle.chart.proofs.sets.closure.Tie as tie
 
 abbrev Inv-loop : tie.InvT-loop
-Inv-loop next after known stop lo hi s₀ s = (length next ≡ 256) × (length after ≡ 256) × Known next after known × Searching next stop lo hi s
+Inv-loop next after known0 known1 stop lo hi s₀ s = (length next ≡ 256) × (length after ≡ 256) × Known next after known0 known1 × Searching next stop lo hi s
 
 abbrev μ-loop : tie.MeasureT-loop
-μ-loop next after known stop lo hi s₀ s = 36893488147419103232 - (s .past0 + s .past1)
+μ-loop next after known0 known1 stop lo hi s₀ s = 36893488147419103232 - (s .past0 + s .past1)
 
 of-words-requires : tie.Need-of-words-requires Inv-loop μ-loop
 of-words-requires c κs = tt

@@ -1,123 +1,34 @@
-use mathlib.Core.Path.{_≡_, sym, _∙_}
-use mathlib.Core.Bool.{true≢false}
-use Prim.Native.Nat.{ℕ, _-_, _≤_, _<_}
+use native.Mathlib.Nat.{lt-irrefl}
 use native.Mathlib.Omega.{arith}
-use borrow.Author.Count.{below-more}
-use lib.ListN.{length, getD}
-use Rattle.bits.specs.Words.{Has}
-use Rattle.theory.specs.Paths.{Plus}
-use Rattle.chart.specs.Sets.{Leads, Known}
-use Rattle.chart.proofs.Searches.{known-none, met-plus, plus-met, known-more}
+use borrow.Author.Needs.{needs}
 use Rattle.chart.proofs.sets.cycle.Statement.{statement}
 use Rattle.chart.proofs.sets.cycle.Tie as tie
 
-abbrev Inv-loop : tie.InvT-loop
-Inv-loop next after₀ n w₀ after w = (length next ≡ 256) × (n ≤ 128) × (w ≤ n) × (length after ≡ 256) × Known next after w × ((k : ℕ) → k < w → ¬ Plus (Leads next) k k)
+element-copy-out-down : tie.Need-element-copy-out-down
+element-copy-out-down c = search needs
 
-abbrev μ-loop : tie.MeasureT-loop
-μ-loop next after₀ n w₀ after w = n - w
+element-copy-out-down-2 : tie.Need-element-copy-out-down-2
+element-copy-out-down-2 c = search needs
 
-loop-holds : tie.Need-loop-holds Inv-loop μ-loop
-loop-holds c = (c .pre .0, c .pre .2, omega arith, c .pre .1, known-none _ _, λ k h. absurd (omega (arith, h)))
+acyclic-requires : tie.Need-acyclic-requires
+acyclic-requires c κs = search needs
 
-mul-closure : tie.Need-mul-closure Inv-loop μ-loop
-mul-closure c = let i = c .before .before .loop .inv in omega (arith, i .1, c .before .loop-test .taken)
+returns : tie.Need-returns
+returns c = record { within = omega arith; cycles = λ h. absurd (lt-irrefl _ h); below = c .before .acyclic .ensures (c .if1 .taken) }
 
-mul-closure-2 : tie.Need-mul-closure-2 Inv-loop μ-loop
-mul-closure-2 c = let i = c .before .before .loop .inv in omega (arith, i .1, c .before .loop-test .taken)
+lowest-cycle-requires : tie.Need-lowest-cycle-requires
+lowest-cycle-requires c κs = search needs
 
-element-copy-out-closure : tie.Need-element-copy-out-closure Inv-loop μ-loop
-element-copy-out-closure c = let i = c .before .before .loop .inv in omega (arith, i .1, c .before .loop-test .taken)
-
-mul-closure-3 : tie.Need-mul-closure-3 Inv-loop μ-loop
-mul-closure-3 c = let i = c .before .before .before .loop .inv in omega (arith, i .1, c .before .before .loop-test .taken)
-
-add-closure : tie.Need-add-closure Inv-loop μ-loop
-add-closure c = let i = c .before .before .before .loop .inv in omega (arith, i .1, c .before .before .loop-test .taken)
-
-mul-closure-4 : tie.Need-mul-closure-4 Inv-loop μ-loop
-mul-closure-4 c = let i = c .before .before .before .loop .inv in omega (arith, i .1, c .before .before .loop-test .taken)
-
-element-copy-out-closure-2 : tie.Need-element-copy-out-closure-2 Inv-loop μ-loop
-element-copy-out-closure-2 c = let i = c .before .before .before .loop .inv in omega (arith, i .1, c .before .before .loop-test .taken)
-
-closure-requires : tie.Need-closure-requires Inv-loop μ-loop
-closure-requires c κs = let i = c .before .before .before .before .loop .inv in (i .0, i .3, i .4)
-
-array-read-holds : tie.Need-array-read-holds Inv-loop μ-loop
-array-read-holds c = let l = c .closure .ensures .long in omega (arith, l)
-
-array-read-holds-2 : tie.Need-array-read-holds-2 Inv-loop μ-loop
-array-read-holds-2 c = let l = c .closure .ensures .long in omega (arith, l)
-
-holds-requires : tie.Need-holds-requires Inv-loop μ-loop
-holds-requires c κs = tt
-
-returns : tie.Need-returns Inv-loop μ-loop
-returns c =
-    let k = c .before .before .before .before .before .before .before in
-    let i = k .loop .inv in
-    let t = c .before .before .before .before .before .before .loop-test .taken in
-    (record { within = i .2; cycles = λ h. met-plus _ _ (c .before .before .closure .result) (omega (arith, i .1, t)) (c .before .before .closure .ensures) _ (omega (arith, i .1, t)) (c .before .holds .ensures .0 (c .if1 .taken)); below = i .5 }, i .3, i .4)
-
-array-read-put-row : tie.Need-array-read-put-row Inv-loop μ-loop
-array-read-put-row c = let l = c .before .before .before .closure .ensures .long in omega (arith, l)
-
-array-read-put-row-2 : tie.Need-array-read-put-row-2 Inv-loop μ-loop
-array-read-put-row-2 c = let l = c .before .before .before .closure .ensures .long in omega (arith, l)
-
-put-row-requires : tie.Need-put-row-requires Inv-loop μ-loop
-put-row-requires c κs = let i = c .before .before .before .before .before .before .before .before .loop .inv in (i .3, omega (arith, i .1, c .before .before .before .before .before .before .before .loop-test .taken))
-
-add-w : tie.Need-add-w Inv-loop μ-loop
-add-w c = let i = c .before .before .before .before .before .before .before .before .before .loop .inv in omega (arith, i .1, c .before .before .before .before .before .before .before .before .loop-test .taken)
-
-loop-less : tie.Need-loop-less Inv-loop μ-loop
-loop-less c = omega (arith, c .before .before .before .before .before .before .before .before .loop-test .taken)
-
-loop-again : tie.Need-loop-again Inv-loop μ-loop
-loop-again c =
-    let i = c .before .before .before .before .before .before .before .before .before .loop .inv in
-    let t = c .before .before .before .before .before .before .before .before .loop-test .taken in
-    let w = c .before .before .before .before .before .before .before .before .before .loop .w in
-    let r = c .before .before .before .before .closure in
-    let l : w < 128 = omega (arith, i .1, t) in
-    let not = c .before .before .before .holds .ensures in
-    let off : ¬ Has (getD (r .result) 0 0) (getD (r .result) 1 0) w = λ h. true≢false (sym (not .1 h) ∙ c .before .before .if1 .left) in (
-      i .0,
-      i .1,
-      omega (arith, t),
-      c .put-row .ensures .long,
-      known-more _ w (r .result) l (r .ensures) off _ _ (i .4) (c .put-row .ensures),
-      below-more (λ (k : ℕ). ¬ Plus (Leads _) k k) w (i .5) (λ p. off (plus-met _ w (r .result) l (r .ensures) off p)),
-    )
-
-returns-2 : tie.Need-returns-2 Inv-loop μ-loop
-returns-2 c = let i = c .before .loop .inv in (record { within = i .2; cycles = λ h. absurd (omega (arith, h, c .loop-test .left)); below = i .5 }, i .3, i .4)
+returns-2 : tie.Need-returns-2
+returns-2 c = search needs
 
 pub cycle-spec : {M : Type 1} → statement M
 cycle-spec =
     tie.close
     (tie.spec
-    Inv-loop
-    μ-loop
-    loop-holds
-    mul-closure
-    mul-closure-2
-    element-copy-out-closure
-    mul-closure-3
-    add-closure
-    mul-closure-4
-    element-copy-out-closure-2
-    closure-requires
-    array-read-holds
-    array-read-holds-2
-    holds-requires
+    element-copy-out-down
+    element-copy-out-down-2
+    acyclic-requires
     returns
-    array-read-put-row
-    array-read-put-row-2
-    put-row-requires
-    add-w
-    loop-less
-    loop-again
+    lowest-cycle-requires
     returns-2)

@@ -15,7 +15,7 @@ pass-row-requires c κs = search needs
 returns-2 : tie.Need-returns-2
 returns-2 c =
     let k = c .before .before .before .before in
-    visit-jump (k .args .next .now) (k .args .after .now) (k .args .known) (k .args .stop) (k .args .w) (k .args .s) (c .pass-row .result) (k .pre .2) (k .pre .3) (c .before .before .before .if1 .left) (c .before .before .jumps .ensures (c .before .if2 .taken)) (c .pass-row .ensures)
+    visit-jump (k .args .next .now) (k .args .after .now) (k .args .known0) (k .args .known1) (k .args .stop) (k .args .w) (k .args .s) (c .pass-row .result) (k .pre .2) (k .pre .3) (c .before .before .before .if1 .left) (c .before .before .jumps .ensures (c .before .if2 .taken)) (c .pass-row .ensures)
 
 add-row-requires : tie.Need-add-row-requires
 add-row-requires c κs = search needs

@@ -1,0 +1,21 @@
+use mathlib.Core.Path.{sym, ap}
+use mathlib.Core.Bool.{Bool}
+use Rattle.chart.specs.Sets.{turnOf}
+use borrow.Author.Needs.{needs}
+use Rattle.chart.proofs.sets.turn.Statement.{statement}
+use Rattle.chart.proofs.sets.turn.Tie as tie
+
+sub-result : tie.Need-sub-result
+sub-result c = search needs
+
+sub-result-2 : tie.Need-sub-result-2
+sub-result-2 c = search needs
+
+returns : tie.Need-returns
+returns c = sym (ap (λ (b : Bool). turnOf (c .before .args .i) (c .before .args .n) b) (c .if1 .taken))
+
+returns-2 : tie.Need-returns-2
+returns-2 c = sym (ap (λ (b : Bool). turnOf (c .before .args .i) (c .before .args .n) b) (c .if1 .left))
+
+pub turn-spec : {M : Type 1} → statement M
+turn-spec = tie.close (tie.spec sub-result sub-result-2 returns returns-2)
