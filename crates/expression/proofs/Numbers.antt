@@ -22,7 +22,7 @@ use Rattle.expression.specs.Words.{LeafRanks, Worded}
 use Rattle.expression.proofs.Table.{tree}
 use Rattle.expression.proofs.View.{at-leaf}
 use Rattle.expression.proofs.KeyLaws.{keyed-half}
-use Rattle.expression.proofs.Sweeps.{keys-fit, leaf-rank, row-edge}
+use Rattle.expression.proofs.Sweeps.{keys-rise, keys-fit, leaf-rank, row-edge}
 use Rattle.expression.proofs.Chart.{body-transitions}
 use Rattle.expression.proofs.WordLaws.{off}
 
@@ -91,11 +91,14 @@ module _ (s : List ℕ) (w : WellFormed s) (keys : List ℕ) (m : ℕ) (ranks : 
     pub numbered : Bytes s → Numbered (bodyOf s) keys words m
     unfolding Numbers
     numbered bytes = record {
-      few = few;
-      keys-long = keyed .long;
-      words-long = worded .long;
-      fit = keys-fit s w keys m ranks keyed ranked bytes .each;
-      known = λ u i on. let (k, e, h, j, mj, q) = bit→ u i on in rw (← q) (rank-low k j h mj);
+      coded = record {
+        few = few;
+        keys-long = keyed .long;
+        words-long = worded .long;
+        fit = keys-fit s w keys m ranks keyed ranked bytes .each;
+        rising = keys-rise s w keys m ranks keyed ranked;
+        known = λ u i on. let (k, e, h, j, mj, q) = bit→ u i on in rw (← q) (rank-low k j h mj);
+      };
       exactly = λ u a t. (
         (λ x. step→ u a t (rw (body-transitions s) at (acts-member (bodyOf s) u a t .0 x))),
         (λ x. acts-member (bodyOf s) u a t .1 (rw (body-transitions s) (step← u a t x))),

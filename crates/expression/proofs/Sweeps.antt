@@ -172,7 +172,7 @@ module _ (s : List ℕ) (w : WellFormed s) (keys : List ℕ) (m : ℕ) (ranks : 
   long-keys : length (take m keys) ≡ m
   long-keys = length-take-le m keys (let f = few in let l = keyed .long in omega arith)
 
-  keys-rise : (i j : ℕ) → i < j → j < m → getD keys i 0 < getD keys j 0
+  pub keys-rise : (i j : ℕ) → i < j → j < m → getD keys i 0 < getD keys j 0
   keys-rise i j h q =
       let l = long-keys in
       let r = rising (take m keys) i j (rw (keyed .are) (keys-ascend s (count s))) h (omega arith) in
