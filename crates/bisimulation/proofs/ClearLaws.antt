@@ -7,22 +7,22 @@ use Prim.Native.Nat.{ℕ, _+_, _*_, _/_, _%_, _^_, _≤_, _<_}
 use native.Mathlib.Decide.{ℕ-discrete}
 use native.Mathlib.Omega.{arith}
 use lib.Dec.{eqb}
-use lib.ListN.{length, getD}
+use lib.ListN.{getD, set, length-set, replicate}
+use lib.Seq.{getD-set-same, getD-set-other}
 use borrow.Author.Tests.{eqb-true}
 use Rattle.theory.specs.Relations.{AllMatched, converse}
 use Rattle.bits.specs.Bits.{Bytes}
 use Rattle.bits.specs.Words.{On, With, Without, Has, HasRow}
 use Rattle.bits.specs.Unions.{United}
-use Rattle.bits.proofs.Sets.{none, has-either, has-both, has-but, with-low, low-has, has-low}
-use Rattle.bits.proofs.Sets.{zero-off}
-use Rattle.chart.specs.Bodies.{verticesOf, countOf, fromOf, actionOf, toOf, WellFormed}
+use Rattle.bits.proofs.Sets.{zero-off, none, has-both, has-but, with-low, has-low}
+use Rattle.chart.specs.Bodies.{verticesOf, actionOf, toOf, WellFormed}
 use Rattle.chart.specs.Leaving.{Rows}
-use Rattle.chart.specs.Numbered.{Numbered}
 use Rattle.chart.proofs.Order.{at-mid, between}
 use Rattle.bisimulation.specs.Relations.{indexedOf}
-use Rattle.bisimulation.specs.Answers.{Related, Passes, Clear}
-use Rattle.bisimulation.specs.Suspects.{Steps, RowsSpread, Columns, Acting, Users, Used, Match, Walked, Cleared, SameEnds, Refusable, Gathered}
-use Rattle.bisimulation.proofs.Rows.{related-row}
+use Rattle.bisimulation.specs.Answers.{Related, Fits, Passes}
+use Rattle.bisimulation.specs.Suspects.{Columns, Users, Used, Match, Walked, Cleared, SameEnds, Refusable, Gathered}
+use Rattle.bisimulation.specs.Pairs.{Told, Sought}
+use Rattle.bisimulation.proofs.StepLaws.{step-of, at-step, match-low, is-matched}
 
 -- `matching`: x and y are the target and the action that the code reads
 pub match-read : (into acting body : List ℕ) (i r : ℕ) {x y : ℕ} → x ≡ toOf body i → y ≡ actionOf body i → ((j : ℕ) → On r j ↔ (On (getD into (2 * x) 0) j × On (getD acting y 0) j)) → (k : ℕ) → On r k ↔ Match into acting body i k
@@ -132,7 +132,7 @@ stable : (lo hi u : ℕ) → ¬ ¬ Has lo hi u → Has lo hi u
 stable lo hi u f = by-cases (ℕ-discrete _ 1) (λ h. h) (λ h. absurd (f h))
 
 pub refuse-none : (into acting users : List ℕ) (used : ℕ) (body : List ℕ) (v : ℕ) {lo hi : ℕ} → lo ≡ 0 → hi ≡ 0 → Refusable into acting users used body v lo hi (0 ∷ 0 ∷ [])
-refuse-none into acting users used body v e f = record { long = refl; others = λ u l h n. absurd (none u (rw (e, f) at h)) }
+refuse-none into acting users used body v e f = record { long = refl; given = λ u h. absurd (none u h); others = λ u l h n. absurd (none u (rw (e, f) at h)) }
 
 module _ {into acting users body rows : List ℕ} {used v : ℕ} (R : Rows body rows) (low : v < 128) {ends walked : List ℕ} (D : SameEnds v ends) (K : Walked into acting users body (getD rows v 0) (getD rows (v + 1) 0) (getD ends 0 0) (getD ends 1 0) walked) where
   -- a row that is able, and has no step that is left over
@@ -147,62 +147,86 @@ module _ {into acting users body rows : List ℕ} {used v : ℕ} (R : Rows body 
   }
 
   pub refuse-some : (clear-lo clear-hi : ℕ) {rest low′ high′ lo hi : ℕ} {unmatched : List ℕ} → ((j : ℕ) → On rest j ↔ (On used j × (¬ On (getD walked 0 0) j))) → United users rest unmatched → ((j : ℕ) → On clear-lo j ↔ (On (getD walked 1 0) j × (¬ On (getD unmatched 0 0) j))) → ((j : ℕ) → On low′ j ↔ (On lo j × (¬ On clear-lo j))) → ((j : ℕ) → On clear-hi j ↔ (On (getD walked 2 0) j × (¬ On (getD unmatched 1 0) j))) → ((j : ℕ) → On high′ j ↔ (On hi j × (¬ On clear-hi j))) → Refusable into acting users used body v lo hi (low′ ∷ high′ ∷ [])
-  refuse-some clear-lo clear-hi {rest} {low′} {high′} {lo} {hi} {unmatched} O U A B C E = record { long = refl; others = others }
+  refuse-some clear-lo clear-hi {rest} {low′} {high′} {lo} {hi} {unmatched} O U A B C E = record { long = refl; given = λ u h. without u .0 h .0; others = others }
     where
+      without : (u : ℕ) → Has low′ high′ u ↔ (Has lo hi u × (¬ Has clear-lo clear-hi u))
+      without = has-but lo hi clear-lo clear-hi low′ high′ B E
+
       others : (u : ℕ) → u < 128 → Has lo hi u → ¬ Has low′ high′ u → Cleared into acting users used body u v
       others u l h n =
-          let c = stable clear-lo clear-hi u (λ m. n (has-but lo hi clear-lo clear-hi low′ high′ B E u .1 (h, m))) in
+          let c = stable clear-lo clear-hi u (λ m. n (without u .1 (h, m))) in
           let (x, y) = has-but (getD walked 1 0) (getD walked 2 0) (getD unmatched 0 0) (getD unmatched 1 0) clear-lo clear-hi A C u .0 c in
           clears O U u l x y
 
 -- `gather`: the first n vertices
-pub gather-none : (columns into acting users : List ℕ) (used : ℕ) (body : List ℕ) → Gathered columns into acting users used body 0 (0 ∷ 0 ∷ [])
-gather-none columns into acting users used body = record { long = refl; others = λ u v l m. absurd (omega arith) }
+pub gather-none : (columns into acting users : List ℕ) (used : ℕ) (body : List ℕ) → Gathered columns into acting users used body 0 (replicate {A = ℕ} 256 0)
+gather-none columns into acting users used body = record { long = refl; given = λ u v m. absurd (omega arith); others = λ u v l m. absurd (omega arith) }
 
-pub gather-more : {columns into acting users body more : List ℕ} {used v lo hi lo′ hi′ : ℕ} → Gathered columns into acting users used body v (lo ∷ hi ∷ []) → Refusable into acting users used body v (getD columns (2 * v) 0) (getD columns (2 * v + 1) 0) more → ((j : ℕ) → On lo′ j ↔ (On lo j ⊎ On (getD more 0 0) j)) → ((j : ℕ) → On hi′ j ↔ (On hi j ⊎ On (getD more 1 0) j)) → Gathered columns into acting users used body (v + 1) (lo′ ∷ hi′ ∷ [])
-gather-more {columns} {into} {acting} {users} {body} {more} {used} {v} {lo} {hi} {lo′} {hi′} G R L H = record { long = refl; others = others }
+pub gather-more : {columns into acting users body t more : List ℕ} {used v : ℕ} → v < 128 → Gathered columns into acting users used body v t → Refusable into acting users used body v (getD columns (2 * v) 0) (getD columns (2 * v + 1) 0) more → Gathered columns into acting users used body (v + 1) (set (set t (2 * v) (getD more 0 0)) (2 * v + 1) (getD more 1 0))
+gather-more {columns} {into} {acting} {users} {body} {t} {more} {used} {v} low G R = record { long = length-set first (2 * v + 1) q ∙ length-set t (2 * v) p ∙ G .long; given = given; others = others }
   where
-    wider : (u : ℕ) → Has lo′ hi′ u ↔ (Has lo hi u ⊎ Has (getD more 0 0) (getD more 1 0) u)
-    wider = has-either lo hi (getD more 0 0) (getD more 1 0) lo′ hi′ L H
+    p : ℕ
+    p = getD more 0 0
 
-    others : (u w : ℕ) → u < 128 → w < v + 1 → HasRow columns w u → ¬ Has lo′ hi′ u → Cleared into acting users used body u w
+    q : ℕ
+    q = getD more 1 0
+
+    first : List ℕ
+    first = set t (2 * v) p
+
+    both : List ℕ
+    both = set first (2 * v + 1) q
+
+    new : (u w : ℕ) → w ≡ v → HasRow both w u ↔ Has p q u
+    new u w e =
+        let f : getD both (2 * v) 0 ≡ p = getD-set-other first (2 * v + 1) (2 * v) q 0 (λ x. omega arith) ∙ getD-set-same t (2 * v) p 0 (omega (arith, G .long)) in
+        let g : getD both (2 * v + 1) 0 ≡ q = getD-set-same first (2 * v + 1) q 0 (omega (arith, length-set t (2 * v) p, G .long)) in
+        subst (λ (x : ℕ). HasRow both x u ↔ Has p q u) (sym e) (rw (f, g) ((λ h. h), (λ h. h)))
+
+    old : (u w : ℕ) → ¬ (w ≡ v) → HasRow both w u ↔ HasRow t w u
+    old u w e =
+        let f : getD both (2 * w) 0 ≡ getD t (2 * w) 0 = getD-set-other first (2 * v + 1) (2 * w) q 0 (λ x. omega arith) ∙ getD-set-other t (2 * v) (2 * w) p 0 (λ x. e (omega arith)) in
+        let g : getD both (2 * w + 1) 0 ≡ getD t (2 * w + 1) 0 = getD-set-other first (2 * v + 1) (2 * w + 1) q 0 (λ x. e (omega arith)) ∙ getD-set-other t (2 * v) (2 * w + 1) p 0 (λ x. omega arith) in
+        rw (f, g) ((λ h. h), (λ h. h))
+
+    given : (u w : ℕ) → w < v + 1 → HasRow both w u → HasRow columns w u
+    given u w m h =
+        by-cases (ℕ-discrete w v)
+        (λ e. subst (λ (x : ℕ). HasRow columns x u) (sym e) (R .given u (new u w e .0 h)))
+        (λ e. G .given u w (omega arith) (old u w e .0 h))
+
+    others : (u w : ℕ) → u < 128 → w < v + 1 → HasRow columns w u → ¬ HasRow both w u → Cleared into acting users used body u w
     others u w l m h n =
         by-cases (ℕ-discrete w v)
-        (λ e. subst (Cleared into acting users used body u) (sym e) (R .others u l (subst (λ (x : ℕ). HasRow columns x u) e h) (λ q. n (wider u .1 (inr q)))))
-        (λ e. G .others u w l (omega arith) h (λ q. n (wider u .1 (inl q))))
+        (λ e. subst (Cleared into acting users used body u) (sym e) (R .others u l (subst (λ (x : ℕ). HasRow columns x u) e h) (λ z. n (new u w e .1 z))))
+        (λ e. G .others u w l (omega arith) h (λ z. n (old u w e .1 z)))
 
 -- what the tables let pass does pass, of every chart whose steps are so numbered
-module _ {keys words body relation into acting users : List ℕ} {m rows : ℕ} (used : ℕ) (B : Bytes body) (W : WellFormed body) (few : m ≤ 64) (I : RowsSpread relation keys m into) (A : Acting keys m acting) (U : Users words rows users) (all : Used words rows used) where
-  -- a step that matches a transition of the body has its action and a related target
-  matched-step : (i k : ℕ) → i < countOf body → Match into acting body i k → (k < m) × (getD keys k 0 / 256 ≡ actionOf body i) × Related relation (getD keys k 0 % 256) (toOf body i)
-  matched-step i k h (p, q) =
-      let (l, e) = A .only (actionOf body i) k (B (4 * i + 4 + 1)) q in
-      let t = W .each i h .to-high in
-      let s = W .header .vertices-high in
-      (l, e, I .exactly (toOf body i) k (omega arith) (omega arith) .0 (low-has _ (getD into (2 * toOf body i + 1) 0) k (omega arith) p) .1)
-
-  cleared-passes : (e : List ℕ) → Numbered e keys words m → (u v : ℕ) → u < rows → Cleared into acting users used body u v → Passes e body relation u v
-  cleared-passes e N u v l C = record { c43 = C .ends; c44 = forth; c45 = back }
+module _ {into acting words users body e relation : List ℕ} {rows used : ℕ} (B : Bytes body) (W : WellFormed body) (T : Told into acting words e relation) (U : Users words rows users) (all : Used words rows used) where
+  cleared-passes : (u v : ℕ) → u < rows → Cleared into acting users used body u v → Passes e body relation u v
+  cleared-passes u v l C = record { c43 = C .ends; c44 = forth; c45 = back }
     where
       forth : AllMatched (indexedOf e) (indexedOf body) (Related relation) u v
       forth i h f =
-          let (k, kl, ka, kw, on) = N .exactly u (actionOf e i) (toOf e i) .0 (record { at = i; within = h; leaves = f; acts = refl; enters = refl }) in
-          let (j, jl, jf, M) = C .forth k (all u k l on) (U .exactly k u (omega arith) l .1 on) in
-          let (kl₂, q, r) = matched-step j k jl M in
-          (j, jl, jf, sym q ∙ ka, subst (λ (x : ℕ). Related relation x (toOf body j)) kw r)
+          let (k, low, a, t, on) = step-of T u i h f in
+          let (j, g, p, M) = C .forth k (all u k l on) (U .exactly k u (omega (arith, T .numbered .coded .few)) l .1 on) in
+          let (q, r) = is-matched B W T i k j a t g M in
+          (j, g, p, q, r)
 
       back : AllMatched (indexedOf body) (indexedOf e) (converse (Related relation)) v u
-      back i h f =
-          let (k, M, r) = C .back i h f in
-          let (kl, q, s) = matched-step i k h M in
-          let a = N .exactly u (getD keys k 0 / 256) (getD keys k 0 % 256) .1 (k, kl, refl, refl, U .exactly k u (omega arith) l .0 r) in
-          (a .at, a .within, a .leaves, a .acts ∙ q, subst (λ (x : ℕ). Related relation x (toOf body i)) (sym (a .enters)) s)
+      back j h f =
+          let (k, M, r) = C .back j h f in
+          let low = match-low B W T j k h M in
+          let (i, g, p, a, t) = at-step T u k (U .exactly k u (omega (arith, T .numbered .coded .few)) l .0 r) in
+          let (q, s) = is-matched B W T i k j a t h M in
+          (i, g, p, sym q, s)
 
-  pub all-clear : {columns r : List ℕ} → length relation ≡ 16 * rows → rows ≤ 128 → Columns relation columns → Gathered columns into acting users used body (verticesOf body) r → (e : List ℕ) → verticesOf e ≡ rows → Numbered e keys words m → Clear e body relation (getD r 0 0) (getD r 1 0)
-  all-clear w h C G e q N u v t n l =
-      let b = related-row relation rows u v w t in
-      cleared-passes e N u v b (G .others u v (omega arith) l (C .all u v t) n)
-
--- what the numbers of a chart's steps keep without the chart
-pub numbered-steps : {e keys words : List ℕ} {m : ℕ} → Numbered e keys words m → Steps keys words m
-numbered-steps N = record { few = N .few; keys-long = N .keys-long; words-long = N .words-long; fit = N .fit; known = N .known }
+  pub sought : {columns table : List ℕ} → rows ≤ 128 → verticesOf e ≡ rows → Columns relation columns → Gathered columns into acting users used body (verticesOf body) table → Fits e body relation → Sought into acting words table body e relation
+  sought h q C G F = record {
+    told = T;
+    fits = F;
+    given = λ u v l m t. C .exactly u v l (omega (arith, W .header .vertices-high)) .0 (G .given u v m t);
+    others = λ u v r n.
+        let (l, m) = F .inside u v r in
+        cleared-passes u v (omega arith) (G .others u v (omega arith) m (C .exactly u v (omega arith) (omega (arith, W .header .vertices-high)) .1 r) n);
+  }

@@ -1,8 +1,10 @@
 -- The laws.
 pub mod Rows
-pub mod Searching
 pub mod PairChecks
 pub mod Relations
 pub mod Openings
 pub mod TableLaws
+pub mod PlaceLaws
+pub mod StepLaws
 pub mod ClearLaws
+pub mod PairLaws

@@ -1,22 +1,21 @@
--- 40 to 42, and what is left to check once they pass.
-use mathlib.Core.Path.{_≡_, refl, sym, _∙_, ap, subst}
+-- 40 to 42, and what holds once they pass.
+use mathlib.Core.Path.{_≡_, refl, sym, _∙_}
 use mathlib.Core.Bool.{Bool, true, false}
 use mathlib.Core.List.{List}
 use Prim.Native.Nat.{ℕ, _*_}
 use native.Mathlib.Omega.{arith}
 use lib.ListN.{length}
-use Rattle.theory.specs.Relations.{starts-apart, related, fails-42, all-pass}
+use Rattle.theory.specs.Relations.{starts-apart, fails-42}
 use Rattle.report.specs.declared.Place.{Place}
 use Rattle.report.specs.declared.Place.the-variants.{RelationLength, PairStarts}
 use Rattle.report.specs.declared.Stage.{Stage}
 use Rattle.report.specs.declared.Stage.the-variants.{Passed, Refused}
-use Rattle.bits.proofs.Sets.{none}
 use Rattle.chart.specs.Bodies.{verticesOf, startOf}
 use Rattle.bisimulation.specs.Relations.{relatedTest, relationOf}
-use Rattle.bisimulation.specs.Answers.{Related, StrayAnswer, Fits, Clear, OpeningAnswer}
+use Rattle.bisimulation.specs.Answers.{StrayAnswer, Fits, OpeningAnswer}
 use Rattle.bisimulation.proofs.Rows.{is-not}
 use Rattle.bisimulation.proofs.PairChecks.{passed-refused}
-use Rattle.bisimulation.proofs.Relations.{Answers, fails-40, fails-41, fitting, fits-after, relation-of}
+use Rattle.bisimulation.proofs.Relations.{fails-40, fails-41, fitting, fits-after, relation-of}
 
 module _ (vertices start : ℕ) {b relation : List ℕ} where
   opening-refused : {s : Stage} {p : Place} → s ≡ Refused p → ((e : List ℕ) → verticesOf e ≡ vertices → startOf e ≡ start → s ≡ relationOf e b relation) → OpeningAnswer vertices start b relation s
@@ -42,9 +41,3 @@ module _ (vertices start : ℕ) {b relation : List ℕ} where
 
       pub opening-passed : t ≡ true → OpeningAnswer vertices start b relation Passed
       opening-passed z = record { refused = λ p n. absurd (passed-refused refl n); passed = λ n e h k. (fits e h, sym (starts e k) ∙ z) }
-
--- 40 to 42 pass and no row is left to search: nothing fails
-pub settled : {vertices start : ℕ} {b relation : List ℕ} {s : Stage} → OpeningAnswer vertices start b relation s → s ≡ Passed → (e : List ℕ) → verticesOf e ≡ vertices → startOf e ≡ start → Clear e b relation 0 0 → relationOf e b relation ≡ Passed
-settled A r e h k C =
-    let (F, S) = A .passed r e h k in
-    sym (relation-of (fitting {o = related} F (all-pass S (λ u v t. C u v t (none u) (F .inside u v t .1)))))

@@ -3,70 +3,20 @@ use mathlib.Core.Path.{_≡_, refl, sym, subst}
 use mathlib.Core.Logic.{inl, inr, ⊎-elim, _↔_}
 use mathlib.Core.Bool.{Bool, true, false, Bool·beq, false≢true}
 use mathlib.Core.List.{List}
-use Prim.Native.Nat.{ℕ, _+_, _*_, _≤_, _<_}
-use native.Mathlib.Nat.{eq-or-lt-of-le, le-refl}
+use Prim.Native.Nat.{ℕ, _≤_, _<_}
 use native.Mathlib.Omega.{arith}
 use lib.Dec.{eqb}
-use lib.ListN.{getD}
-use Rattle.theory.specs.Least.{Least, Earlier}
+use Rattle.theory.specs.Least.{Earlier}
 use Rattle.theory.specs.Tests.{Decides}
 use Rattle.theory.proofs.Tests.{decides-eqb, not-so}
-use Rattle.theory.specs.Relations.{Matched, Unmatched, AllMatched, fails-pair}
-use Rattle.bits.specs.Bits.{Bytes}
-use Rattle.chart.specs.Bodies.{verticesOf, startOf, countOf, fromOf, actionOf, toOf, WellFormed}
-use Rattle.chart.specs.Leaving.{Rows, Split}
-use Rattle.chart.proofs.Order.{low-high, at-mid, between}
-use Rattle.bisimulation.specs.Relations.{indexedOf}
+use Rattle.theory.specs.Relations.{fails-pair}
+use Rattle.chart.specs.Bodies.{verticesOf, startOf}
 use Rattle.report.specs.declared.Place.{Place}
 use Rattle.report.specs.declared.Place.the-variants.{PairNoVertex}
 use Rattle.report.specs.declared.Stage.{Stage}
 use Rattle.report.specs.declared.Stage.the-variants.{Passed, Refused}
-use Rattle.bisimulation.specs.Answers.{Related, Stray, Passes, Fails, PairAnswer, RowAnswer, CheckedAnswer, StrayAnswer, FirstColumn, Part, MatchBetween, FirstUnmatched}
+use Rattle.bisimulation.specs.Answers.{Related, Stray, Passes, Fails, PairAnswer, RowAnswer, CheckedAnswer, StrayAnswer, FirstColumn}
 use Rattle.bisimulation.proofs.Rows.{related-column}
-
--- a vertex has an entry, and a next one, among the 129 of `chart::rows`
-pub low : {b : List ℕ} {v : ℕ} → WellFormed b → v < verticesOf b → v < 128
-low W h = omega (arith, W .header .vertices-high)
-
--- the transitions of a vertex: their actions do not fall
-pub vertex-part : {b rows : List ℕ} → Bytes b → WellFormed b → Rows b rows → (v : ℕ) → v < 128 → Part b (getD rows v 0) (getD rows (v + 1) 0)
-vertex-part {b} {rows} B W R v h = record {
-  order = low-high L H;
-  long = omega (arith, H .within, W .header .whole);
-  rising = λ j k l m n. ⊎-elim (λ e. subst (λ (i : ℕ). actionOf b j ≤ actionOf b i) e (le-refl _)) (λ g. climbs j k l g n) (eq-or-lt-of-le m);
-  targets = λ k l m. W .each k (omega (arith, H .within)) .to-high;
-}
-  where
-    L : Split b (countOf b) v (getD rows v 0)
-    L = R .split v (omega arith)
-
-    H : Split b (countOf b) (v + 1) (getD rows (v + 1) 0)
-    H = R .split (v + 1) (omega arith)
-
-    climbs : (j k : ℕ) → getD rows v 0 ≤ j → j < k → k < getD rows (v + 1) 0 → actionOf b j ≤ actionOf b k
-    climbs j k l g n = omega (arith, W .ascending j k g (omega (arith, H .within)), at-mid L H j l (omega arith), at-mid L H k (omega arith) n, B (4 * k + 4 + 2))
-
--- a search through the transitions of u for one that v's do not match
-module _ {one rows other columns : List ℕ} {R : ℕ → ℕ → Type 0} (A : Rows one rows) (B : Rows other columns) {u v r : ℕ} (p : u < 128) (q : v < 128) (F : FirstUnmatched one (getD rows u 0) (getD rows (u + 1) 0) other (getD columns v 0) (getD columns (v + 1) 0) R r) where
-  matched-of : (i : ℕ) → MatchBetween other R (actionOf one i) (toOf one i) (getD columns v 0) (getD columns (v + 1) 0) → Matched (indexedOf one) (indexedOf other) R v i
-  matched-of i m = (m .index, omega (arith, m .below, B .split (v + 1) (omega arith) .within), at-mid (B .split v (omega arith)) (B .split (v + 1) (omega arith)) (m .index) (m .from) (m .below), m .acts, m .relates)
-
-  of-matched : (i : ℕ) → Matched (indexedOf one) (indexedOf other) R v i → MatchBetween other R (actionOf one i) (toOf one i) (getD columns v 0) (getD columns (v + 1) 0)
-  of-matched i (j, h, f, a, t) =
-      let (l, g) = between (B .split v (omega arith)) (B .split (v + 1) (omega arith)) j h f in
-      record { index = j; from = l; below = g; acts = a; relates = t }
-
-  here : (k : ℕ) → k < countOf one → fromOf one k ≡ u → (getD rows u 0 ≤ k) × (k < getD rows (u + 1) 0)
-  here = between (A .split u (omega arith)) (A .split (u + 1) (omega arith))
-
-  pub first-least : r < getD rows (u + 1) 0 → Least (Unmatched (indexedOf one) (indexedOf other) R u v) r
-  first-least h = record {
-    holds = (omega (arith, A .split (u + 1) (omega arith) .within), at-mid (A .split u (omega arith)) (A .split (u + 1) (omega arith)) r (F .from) h, λ m. F .unmatched h (of-matched r m));
-    lowest = λ k l (b, f, n). n (matched-of k (F .below k (here k b f .0) l));
-  }
-
-  pub first-none : getD rows (u + 1) 0 ≤ r → AllMatched (indexedOf one) (indexedOf other) R u v
-  first-none h i b f = let (l, g) = here i b f in matched-of i (F .below i l (omega arith))
 
 -- 43: the test of the ends
 pub decides-ends : (u v : ℕ) → Decides (Bool·beq (eqb u 0) (eqb v 0)) ((u ≡ 0) ↔ (v ≡ 0))

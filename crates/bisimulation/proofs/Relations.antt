@@ -68,7 +68,7 @@ fits-of {e} {b} {relation} w h = record { whole = w; inside = λ u v r. (related
         go true e = ltb-true v (verticesOf b) e
         go false e = absurd (h u v (ltb-false v (verticesOf b) e, r))
 
--- what `check` knows once 41 passes
+-- what `opening` knows once 41 passes
 pub fits-after : {e b relation : List ℕ} {n : ℕ} {s : Stage} → n ≡ verticesOf e → length relation ≡ 16 * n → StrayAnswer b relation s → s ≡ Passed → Fits e b relation
 fits-after {e} {b} h w a q = fits-of {e = e} (rw h at w) (a .passed q)
 

@@ -1,9 +1,9 @@
 -- The tables by which the suspects are found: what their loops keep.
-use mathlib.Core.Path.{_≡_, refl, sym, _∙_, subst}
+use mathlib.Core.Path.{_≡_, refl, sym, _∙_, ap, subst}
 use mathlib.Core.Logic.{_⊎_, inl, inr, _↔_, by-cases}
 use mathlib.Core.Bool.{Bool, true, false, _&&_, false≢true}
 use mathlib.Core.List.{List}
-use Prim.Native.Nat.{ℕ, _+_, _-_, _*_, _/_, _%_, _^_, _≤_, _<_}
+use Prim.Native.Nat.{ℕ, _+_, _-_, _*_, _/_, _≤_, _<_}
 use native.Mathlib.Decide.{ℕ-discrete, decLt}
 use native.Mathlib.Omega.{arith}
 use lib.Dec.{eqb}
@@ -13,11 +13,14 @@ use borrow.Author.Count.{below-more}
 use borrow.Author.Tests.{eqb-true}
 use Rattle.bits.specs.Words.{On, With, Has, HasRow}
 use Rattle.bits.specs.Unions.{Above, Spread, Between}
-use Rattle.bits.proofs.Sets.{none}
-use Rattle.bits.proofs.Sets.{zero-off}
+use Rattle.bits.proofs.Sets.{none, zero-off}
 use Rattle.bisimulation.specs.Answers.{Related}
 use Rattle.bisimulation.specs.Suspects.{HalfRow, SameRow, RowSpread, rowAt, Run, RowsSpread, Identity, Columns, Acting, WordRun, Users, Used}
-use Rattle.bisimulation.proofs.Rows.{related-column, related-row}
+use Rattle.bisimulation.proofs.Rows.{related-row}
+
+-- what holds from at up to k, and at k, holds up to k + 1
+pub between-more : (P : ℕ → Type 0) {at : ℕ} (k : ℕ) → ((j : ℕ) → at ≤ j → j < k → P j) → P k → (j : ℕ) → at ≤ j → j < k + 1 → P j
+between-more P k h p j l m = by-cases (ℕ-discrete j k) (λ e. subst P (sym e) p) (λ e. h j l (omega arith))
 
 -- a table begins with empty sets
 empty-row : (n w z : ℕ) → 2 * w + 2 ≤ n → ¬ HasRow (replicate {A = ℕ} n 0) w z
@@ -111,34 +114,39 @@ own-more own i l h = below-more (λ (j : ℕ). getD (set own i i) j 0 ≡ j) i (
 
 -- `columns`: each row has its own number
 pub own-columns : {relation own t : List ℕ} {rows : ℕ} → length relation ≡ 16 * rows → rows ≤ 128 → Identity own → RowsSpread relation own rows t → Columns relation t
-own-columns {relation} {own} {t} {rows} e l I S = record { long = S .long; all = all }
+own-columns {relation} {own} {t} {rows} e l I S = record { long = S .long; exactly = λ u v m w. (there u v m w, back u v m w) }
   where
-    all : (u v : ℕ) → Related relation u v → HasRow t v u
-    all u v r =
-        let w = related-column relation u v r in
-        let h = related-row relation rows u v e r in
-        let f : rowAt own u ≡ u = omega (arith, I .own u (omega arith)) in
-        S .exactly v u w (omega arith) .1 (h, rw f r)
+    itself : (u : ℕ) → u < 128 → rowAt own u ≡ u
+    itself u m = omega (arith, I .own u m)
+
+    there : (u v : ℕ) → u < 128 → v < 128 → HasRow t v u → Related relation u v
+    there u v m w h = rw (itself u m) at (S .exactly v u w m .0 h .1)
+
+    back : (u v : ℕ) → u < 128 → v < 128 → Related relation u v → HasRow t v u
+    back u v m w r = S .exactly v u w m .1 (related-row relation rows u v e r, rw (itself u m) r)
 
 -- `acting`: the first k steps
 pub acting-none : (keys : List ℕ) → Acting keys 0 (replicate {A = ℕ} 256 0)
-acting-none keys = record { long = refl; only = λ a k l h. absurd (zero-off k (rw (getD-replicate {A = ℕ} 256 a 0 0 l) at h)) }
+acting-none keys = record { long = refl; exactly = λ a k l. ((λ h. absurd (zero-off k (rw (getD-replicate {A = ℕ} 256 a 0 0 l) at h))), (λ h. absurd (omega (arith, h .0)))) }
 
 pub acting-more : {keys t : List ℕ} {k a r : ℕ} → Acting keys k t → a ≡ getD keys k 0 / 256 → a < 256 → With (getD t a 0) k r → Acting keys (k + 1) (set t a r)
-acting-more {keys} {t} {k} {a} {r} A e l W = record { long = length-set t a r ∙ A .long; only = only }
+acting-more {keys} {t} {k} {a} {r} A e l W = record { long = length-set t a r ∙ A .long; exactly = λ b j m. elim (ℕ-discrete b a) [ yes f ↦ here b j f | no f ↦ there b j m f ] }
   where
-    old : (b j : ℕ) → b < 256 → On (getD t b 0) j → (j < k + 1) × (getD keys j 0 / 256 ≡ b)
-    old b j m on = let (p, q) = A .only b j m on in (omega arith, q)
-
     new : (j : ℕ) → On (getD t a 0) j ⊎ (j ≡ k) → (j < k + 1) × (getD keys j 0 / 256 ≡ a)
-    new j (inl on) = old a j l on
+    new j (inl on) = let (p, q) = A .exactly a j l .0 on in (omega arith, q)
     new j (inr f) = (omega arith, subst (λ (x : ℕ). getD keys x 0 / 256 ≡ a) (sym f) (sym e))
 
-    only : (b j : ℕ) → b < 256 → On (getD (set t a r) b 0) j → (j < k + 1) × (getD keys j 0 / 256 ≡ b)
-    only b j m on =
-        by-cases (ℕ-discrete b a)
-        (λ f. subst (λ (x : ℕ). (j < k + 1) × (getD keys j 0 / 256 ≡ x)) (sym f) (new j (W .exactly j .0 (rw (f, getD-set-same t a r 0 (omega (arith, A .long))) at on))))
-        (λ f. old b j m (rw (getD-set-other t a b r 0 f) at on))
+    old : (j : ℕ) → j < k + 1 → getD keys j 0 / 256 ≡ a → On (getD t a 0) j ⊎ (j ≡ k)
+    old j p q = by-cases (ℕ-discrete j k) (λ f. inr f) (λ f. inl (A .exactly a j l .1 (omega arith, q)))
+
+    here : (b j : ℕ) → b ≡ a → On (getD (set t a r) b 0) j ↔ ((j < k + 1) × (getD keys j 0 / 256 ≡ b))
+    here b j f = rw (f, getD-set-same t a r 0 (omega (arith, A .long))) ((λ on. new j (W .exactly j .0 on)), (λ (p, q). W .exactly j .1 (old j p q)))
+
+    there : (b j : ℕ) → b < 256 → ¬ (b ≡ a) → On (getD (set t a r) b 0) j ↔ ((j < k + 1) × (getD keys j 0 / 256 ≡ b))
+    there b j m f = rw (getD-set-other t a b r 0 f) (
+      (λ on. let (p, q) = A .exactly b j m .0 on in (omega arith, q)),
+      (λ (p, q). A .exactly b j m .1 (by-cases (ℕ-discrete j k) (λ z. absurd (f (sym q ∙ ap (λ (i : ℕ). getD keys i 0 / 256) z ∙ sym e))) (λ z. omega arith), q)),
+    )
 
 -- `users`: the first n rows
 pub record UsersBelow (words : List ℕ) (n : ℕ) (t : List ℕ) : Type 0 where

@@ -3,3 +3,5 @@ pub mod Relations
 pub mod Answers
 pub mod Meaning
 pub mod Suspects
+pub mod Places
+pub mod Pairs

@@ -1,4 +1,4 @@
--- The rows that 43 to 45 may refuse, found by sets: the tables, and the contracts of the code that reads them.
+-- The pairs that 43 to 45 may refuse, found by sets: the tables, and the contracts of the code that reads them.
 use mathlib.Core.Path.{_≡_}
 use mathlib.Core.Logic.{_⊎_, _↔_}
 use mathlib.Core.List.{List}
@@ -7,14 +7,6 @@ use lib.ListN.{length, getD}
 use Rattle.bits.specs.Words.{On, Has, HasRow}
 use Rattle.chart.specs.Bodies.{countOf, fromOf, actionOf, toOf}
 use Rattle.bisimulation.specs.Answers.{Related}
-
--- what holds of the numbers of every chart's steps
-pub record Steps (keys words : List ℕ) (m : ℕ) : Type 0 where
-  pub few : m ≤ 64
-  pub keys-long : length keys ≡ 128
-  pub words-long : length words ≡ 128
-  pub fit : (k : ℕ) → k < m → getD keys k 0 < 65536
-  pub known : (u k : ℕ) → On (getD words u 0) k → k < m
 
 -- THE TABLES
 -- r has the bits of half h of row u
@@ -54,7 +46,7 @@ pub record Identity (r : List ℕ) : Type 0 where
 -- set v has the rows that are related to v
 pub record Columns (relation r : List ℕ) : Type 0 where
   pub long : length r ≡ 256
-  pub all : (u v : ℕ) → Related relation u v → HasRow r v u
+  pub exactly : (u v : ℕ) → u < 128 → v < 128 → HasRow r v u ↔ Related relation u v
 
 -- from u up to b the words are the same
 pub record WordRun (words : List ℕ) (rows u b : ℕ) : Type 0 where
@@ -62,10 +54,10 @@ pub record WordRun (words : List ℕ) (rows u b : ℕ) : Type 0 where
   pub within : b ≤ rows
   pub same : (j : ℕ) → u ≤ j → j < b → getD words j 0 ≡ getD words u 0
 
--- word a has only steps with the action a
+-- word a has the steps with the action a
 pub record Acting (keys : List ℕ) (m : ℕ) (r : List ℕ) : Type 0 where
   pub long : length r ≡ 256
-  pub only : (a k : ℕ) → a < 256 → On (getD r a 0) k → (k < m) × (getD keys k 0 / 256 ≡ a)
+  pub exactly : (a k : ℕ) → a < 256 → On (getD r a 0) k ↔ ((k < m) × (getD keys k 0 / 256 ≡ a))
 
 -- set k has the rows with the step k
 pub record Users (words : List ℕ) (rows : ℕ) (r : List ℕ) : Type 0 where
@@ -81,11 +73,15 @@ Used words rows r = (u k : ℕ) → u < rows → On (getD words u 0) k → On r 
 abbrev pub Match : (into acting body : List ℕ) → ℕ → ℕ → Type 0
 Match into acting body i k = On (getD into (2 * toOf body i) 0) k × On (getD acting (actionOf body i) 0) k
 
+-- step k matches one of the transitions from a up to b
+abbrev pub MatchedIn : (into acting body : List ℕ) → (a b k : ℕ) → Type 0
+MatchedIn into acting body a b k = (i : ℕ) × (a ≤ i) × (i < b) × Match into acting body i k
+
 -- of the transitions from a to b: the word r 0 has steps that match one of them, and the set (r 1, r 2) has rows of (lo, hi)
 -- with a step for each of them
 pub record Walked (into acting users body : List ℕ) (a b lo hi : ℕ) (r : List ℕ) : Type 0 where
   pub long : length r ≡ 3
-  pub matched : (k : ℕ) → On (getD r 0 0) k → (i : ℕ) × (a ≤ i) × (i < b) × Match into acting body i k
+  pub matched : (k : ℕ) → On (getD r 0 0) k → MatchedIn into acting body a b k
   pub given : (u : ℕ) → Has (getD r 1 0) (getD r 2 0) u → Has lo hi u
   pub able : (u : ℕ) → Has (getD r 1 0) (getD r 2 0) u → (i : ℕ) → a ≤ i → i < b → (k : ℕ) × Match into acting body i k × HasRow users k u
 
@@ -106,12 +102,14 @@ pub record Tabled (into acting users : List ℕ) : Type 0 where
   pub acting-long : length acting ≡ 256
   pub users-long : length users ≡ 128
 
--- of the set (lo, hi), the rows outside r pass with v
+-- of the rows of the set (lo, hi), those outside r pass with v
 pub record Refusable (into acting users : List ℕ) (used : ℕ) (body : List ℕ) (v lo hi : ℕ) (r : List ℕ) : Type 0 where
   pub long : length r ≡ 2
+  pub given : (u : ℕ) → Has (getD r 0 0) (getD r 1 0) u → Has lo hi u
   pub others : (u : ℕ) → u < 128 → Has lo hi u → ¬ Has (getD r 0 0) (getD r 1 0) u → Cleared into acting users used body u v
 
--- the rows outside r pass with each of the first n vertices whose set they are in
+-- of the rows of each of the first n sets of columns, those outside the set in r pass with its vertex
 pub record Gathered (columns into acting users : List ℕ) (used : ℕ) (body : List ℕ) (n : ℕ) (r : List ℕ) : Type 0 where
-  pub long : length r ≡ 2
-  pub others : (u v : ℕ) → u < 128 → v < n → HasRow columns v u → ¬ Has (getD r 0 0) (getD r 1 0) u → Cleared into acting users used body u v
+  pub long : length r ≡ 256
+  pub given : (u v : ℕ) → v < n → HasRow r v u → HasRow columns v u
+  pub others : (u v : ℕ) → u < 128 → v < n → HasRow columns v u → ¬ HasRow r v u → Cleared into acting users used body u v

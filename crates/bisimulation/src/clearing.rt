@@ -16,7 +16,7 @@ ghost use Rattle.chart.specs.Leaving.{Rows};
 ghost use Rattle.bisimulation.specs.Suspects.{Match, Walked, SameEnds, Tabled, Refusable, Gathered};
 
 // The steps that match transition i: its action, and a target that is related to its target.
-fn matching(into: &[u64; 256], acting: &[u64; 256], body: &[u8], i: usize) -> u64
+pub(crate) fn matching(into: &[u64; 256], acting: &[u64; 256], body: &[u8], i: usize) -> u64
     requires { ⌜ WellFormed (now body) × (i < countOf (now body)) × (length (now into) ≡ 256) × (length (now acting) ≡ 256) ⌝ }
     ensures { λ r. ⌜ ((k : ℕ) → On r k ↔ Match (now (into .entry)) (now (acting .entry)) (now (body .entry)) i k) ⌝ }
 {
@@ -101,7 +101,7 @@ fn refusable(
     [low, high]
 }
 
-// The rows that 43, 44 or 45 may refuse with some chart vertex.
+// For each chart vertex the rows that 43, 44 or 45 may refuse with it.
 pub(crate) fn gather(
     columns: &[u64; 256],
     into: &[u64; 256],
@@ -110,21 +110,20 @@ pub(crate) fn gather(
     used: u64,
     body: &[u8],
     rows: &[usize; 129],
-) -> [u64; 2]
+) -> [u64; 256]
     requires { ⌜ WellFormed (now body) × (length (now columns) ≡ 256) × Tabled (now into) (now acting) (now users) × Rows (now body) (now rows) ⌝ }
     ensures { λ r. ⌜ Gathered (now (columns .entry)) (now (into .entry)) (now (acting .entry)) (now (users .entry)) used (now (body .entry)) (verticesOf (now (body .entry))) r ⌝ }
 {
     let n = byte(body, 0);
-    let mut lo: u64 = 0;
-    let mut hi: u64 = 0;
+    let mut table = [0u64; 256];
     let mut v: usize = 0;
     while v < n {
         let low = columns[2 * v];
         let high = columns[2 * v + 1];
         let more = refusable(into, acting, users, used, body, rows, v, low, high);
-        lo = either(lo, more[0]);
-        hi = either(hi, more[1]);
+        table[2 * v] = more[0];
+        table[2 * v + 1] = more[1];
         v += 1;
     }
-    [lo, hi]
+    table
 }

@@ -1,13 +1,9 @@
 -- The stages of the check, as the code goes through them.
-use mathlib.Core.Path.{_≡_, refl, sym, _∙_, ap, ap₂}
-use mathlib.Core.Bool.{Bool, true, false, cond}
-use mathlib.Core.List.{List, _++_}
-use Prim.Native.Nat.{ℕ, zero, suc, _+_, _*_, _/_, _≤_, _<_}
+use mathlib.Core.Path.{_≡_, sym, _∙_, ap}
+use mathlib.Core.List.{List}
+use Prim.Native.Nat.{ℕ, _+_, _/_, _≤_}
 use native.Mathlib.Omega.{arith}
-use lib.Dec.{ltb}
-use lib.ListN.{length, getD, take, drop, length-append, length-drop, List·getD-append}
-use lib.Seq.{take-append-seam}
-use borrow.Author.Tests.{le-ltb}
+use lib.ListN.{length}
 use Rattle.report.specs.declared.Place.{Place}
 use Rattle.report.specs.declared.Stage.{Stage}
 use Rattle.report.specs.declared.Stage.the-variants as stage
@@ -18,15 +14,14 @@ use Rattle.chart.specs.Checks as chart
 use Rattle.chart.proofs.Checks.{well-formed}
 use Rattle.expression.specs.Table as expression
 use Rattle.expression.specs.Table.{count}
-use Rattle.expression.specs.Body.{bodyOf, chartOf, bufferOf, writtenOf}
+use Rattle.expression.specs.Body.{bodyOf}
 use Rattle.expression.proofs.Table.{passed→well-formed}
-use Rattle.expression.proofs.Bodies.{body-long, chart-few}
-use Rattle.expression.proofs.Chart.{body-count, body-vertices, body-start}
+use Rattle.expression.proofs.Chart.{body-vertices, body-start}
 use Rattle.witness.specs.declared.Labelled.the-variants as labelled
 use Rattle.witness.specs.Labellings.{labelledOf}
 use Rattle.bisimulation.specs.Relations.{relationOf}
-use Rattle.verdict.specs.Files.{andThen, recordsOf, bodyAt}
-use Rattle.verdict.specs.Verdicts.{nodesIn, chartIn, labelsIn, relationIn, bodiesOf, counted, labellingOf, unless, loopsOf, after, verdictOf}
+use Rattle.verdict.specs.Files.{andThen, recordsOf}
+use Rattle.verdict.specs.Verdicts.{nodesIn, chartIn, labelsIn, relationIn, bodiesOf, labellingOf, loopsOf, after, verdictOf}
 use Rattle.verdict.proofs.Files.{both-passed}
 
 -- the vertices of the expression's chart: one for each node, and the end
@@ -97,40 +92,6 @@ module _ (f : List ℕ) where
   pub verdict-loops : bodiesOf f ≡ stage.Passed → (x : Verdict) → x ≡ loopsOf f → x ≡ verdictOf f
   unfolding verdictOf
   verdict-loops e x g = g ∙ ap (λ (x : Stage). after x (loopsOf f)) (sym e)
-
--- the expression's chart in bytes that are long enough for every one
-module _ (s lent : List ℕ) (passed : expression.checkOf s ≡ stage.Passed) (long : length lent ≡ 32772) where
-  fits : length (bodyOf s) ≤ length lent
-  fits = let a = chart-few s (passed→well-formed s passed) in let b = body-long s in omega arith
-
-  pub written-body : bufferOf s lent ≡ bodyOf s ++ drop (length (bodyOf s)) lent
-  unfolding bufferOf writtenOf
-  written-body = rw (passed, le-ltb (length lent) (length (bodyOf s)) fits)
-
-  module _ (out : List ℕ) (e : out ≡ bufferOf s lent) where
-    count-in : countOf out ≡ countOf (bodyOf s)
-    count-in =
-        let b = body-long s in
-        rw (e, written-body)
-        (ap₂ (λ (x y : ℕ). x + 256 * y) (List·getD-append (bodyOf s) (drop (length (bodyOf s)) lent) 0 2 (omega arith)) (List·getD-append (bodyOf s) (drop (length (bodyOf s)) lent) 0 3 (omega arith)))
-
-    pub part-end : 4 + 4 * countOf out ≡ length (bodyOf s)
-    part-end = let a = count-in in let b = body-count s in let c = body-long s in omega arith
-
-    pub part-within : length (bodyOf s) ≤ length out
-    part-within = rw (e, written-body, length-append (bodyOf s) (drop (length (bodyOf s)) lent)) (omega arith)
-
-    seam : take (length (bodyOf s)) out ≡ bodyOf s
-    seam = rw (e, written-body) (take-append-seam (bodyOf s) (drop (length (bodyOf s)) lent))
-
-    pub part-body : (n : ℕ) → n ≡ countOf out → take (4 + 4 * n) out ≡ bodyOf s
-    part-body n q = let z : 4 + 4 * n ≡ length (bodyOf s) = omega (arith, part-end) in ap (λ (k : ℕ). take k out) z ∙ seam
-
-    pub part-room : (n : ℕ) → n ≡ countOf out → 4 + 4 * n ≤ length out
-    part-room n q = omega (arith, part-end, part-within)
-
-    pub part-long : (n : ℕ) → n ≡ countOf out → 4 + 4 * n ≡ length (take (4 + 4 * n) out)
-    part-long n q = omega (arith, ap length (part-body n q), part-end)
 
 pub chart-long : (b : List ℕ) → chart.checkOf b ≡ stage.Passed → 4 ≤ length b
 chart-long b e = well-formed b e .header .long

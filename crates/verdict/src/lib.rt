@@ -1,13 +1,13 @@
 // Yard files: the four records [1-4], and the whole check.
 ghost use mathlib.Core.Path.{_≡_};
 ghost use Prim.Native.Nat.{_+_, _*_, _≤_, _<_};
-ghost use lib.ListN.{length, getD};
-ghost use Rattle.chart.specs.Bodies.{verticesOf};
+ghost use lib.ListN.{length};
+ghost use Rattle.chart.specs.Bodies.{verticesOf, startOf};
 ghost use Rattle.chart.specs.Checks as chart·checks;
 ghost use Rattle.expression.specs.Table as expression·table;
 ghost use Rattle.expression.specs.Body.{bodyOf};
 ghost use Rattle.bisimulation.specs.Relations.{relationOf};
-ghost use Rattle.bisimulation.specs.Answers.{Clear};
+ghost use Rattle.bisimulation.specs.Answers.{Related, Fits};
 ghost use Rattle.verdict.specs.Files.{pairAt, recordStage, recordsOf, offsetOf, bodyAt};
 ghost use Rattle.verdict.specs.Verdicts.{bodiesOf, labellingOf, loopsOf, verdictOf};
 use bits::byte;
@@ -117,37 +117,18 @@ fn check_labelling(file: &[u8]) -> Verdict
     }
 }
 
-// Room for the chart of every expression: 4 bytes, and 4 for each of at most 8,192 transitions.
-fn room() -> [u8; 32772]
-    ensures { λ r. ⌜ length r ≡ 32772 ⌝ }
-{
-    [0u8; 32772]
-}
-
-// The refusals 40 to 45, against the expression's chart, where only the rows of the set (lo, hi) may be refused by 43 to 45.
-fn search_relation(nodes: &[u8], chart: &[u8], relation: &[u8], lo: u64, hi: u64) -> Stage
-    requires { ⌜ (expression·table.checkOf (now nodes) ≡ Stage.Passed) × (chart·checks.checkOf (now chart) ≡ Stage.Passed) × Clear (bodyOf (now nodes)) (now chart) (now relation) lo hi ⌝ }
+// The refusals 43 to 45, against the expression's chart, where 40 to 42 pass.
+fn check_pairs(nodes: &[u8], vertices: usize, chart: &[u8], relation: &[u8]) -> Stage
+    requires { ⌜ (expression·table.checkOf (now nodes) ≡ Stage.Passed) × (chart·checks.checkOf (now chart) ≡ Stage.Passed) × (vertices ≡ verticesOf (bodyOf (now nodes))) × (vertices ≤ 128) × Fits (bodyOf (now nodes)) (now chart) (now relation) × Related (now relation) (startOf (bodyOf (now nodes))) (startOf (now chart)) ⌝ }
     ensures { λ r. ⌜ r ≡ relationOf (bodyOf (now (nodes .entry))) (now (chart .entry)) (now (relation .entry)) ⌝ }
-{
-    let mut out = room();
-    expression::write_chart(nodes, &mut out);
-    let end = 4 + 4 * chart::count(&out);
-    bisimulation::check(&out[..end], chart, relation, lo, hi)
-}
-
-// The rows that 43 to 45 may refuse, by the numbers of the expression's steps: its chart is not written.
-fn suspect_rows(nodes: &[u8], vertices: usize, chart: &[u8], relation: &[u8]) -> [u64; 2]
-    requires { ⌜ (expression·table.checkOf (now nodes) ≡ Stage.Passed) × (chart·checks.checkOf (now chart) ≡ Stage.Passed) × (vertices ≡ verticesOf (bodyOf (now nodes))) × (vertices ≤ 128) × (length (now relation) ≡ 16 * vertices) ⌝ }
-    ensures { λ r. ⌜ (length r ≡ 2) × Clear (bodyOf (now (nodes .entry))) (now (chart .entry)) (now (relation .entry)) (getD r 0 0) (getD r 1 0) ⌝ }
 {
     let mut keys = [0usize; 128];
     let mut words = [0u64; 128];
     let m = expression::number_steps(nodes, &mut keys, &mut words);
-    let rows = chart::rows(chart);
-    bisimulation::suspects(&keys, &words, m, vertices, chart, &rows, relation)
+    bisimulation::check_pairs(&keys, &words, m, vertices, chart, relation)
 }
 
-// The refusals 40 to 45, against the expression's chart.
+// The refusals 40 to 45, against the expression's chart, which is not written.
 fn check_relation(nodes: &[u8], chart: &[u8], relation: &[u8]) -> Stage
     requires { ⌜ (expression·table.checkOf (now nodes) ≡ Stage.Passed) × (chart·checks.checkOf (now chart) ≡ Stage.Passed) ⌝ }
     ensures { λ r. ⌜ r ≡ relationOf (bodyOf (now (nodes .entry))) (now (chart .entry)) (now (relation .entry)) ⌝ }
@@ -157,13 +138,7 @@ fn check_relation(nodes: &[u8], chart: &[u8], relation: &[u8]) -> Stage
     let Stage::Passed = stage else {
         return stage;
     };
-    let rows = suspect_rows(nodes, n + 1, chart, relation);
-    let lo = rows[0];
-    let hi = rows[1];
-    if (lo == 0) & (hi == 0) {
-        return Stage::Passed;
-    }
-    search_relation(nodes, chart, relation, lo, hi)
+    check_pairs(nodes, n + 1, chart, relation)
 }
 
 // The refusals 30 to 45, or the counts.

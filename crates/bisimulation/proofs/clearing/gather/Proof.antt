@@ -1,7 +1,5 @@
-use Prim.Native.Nat.{_≤_}
 use mathlib.Core.Path.{_≡_}
-use mathlib.Core.List.{[], _∷_}
-use Prim.Native.Nat.{_-_}
+use Prim.Native.Nat.{_-_, _≤_}
 use lib.ListN.{length}
 use Rattle.chart.specs.Bodies.{verticesOf, WellFormed}
 use Rattle.chart.specs.Leaving.{Rows}
@@ -13,10 +11,10 @@ use Rattle.bisimulation.proofs.clearing.gather.Statement.{statement}
 use Rattle.bisimulation.proofs.clearing.gather.Tie as tie
 
 abbrev Inv-loop : tie.InvT-loop
-Inv-loop columns into acting users used body rows n lo₀ hi₀ v₀ lo hi v = WellFormed body × (length columns ≡ 256) × Tabled into acting users × Rows body rows × (n ≡ verticesOf body) × (v ≤ n) × Gathered columns into acting users used body v (lo ∷ hi ∷ [])
+Inv-loop columns into acting users used body rows n table₀ v₀ table v = WellFormed body × (length columns ≡ 256) × Tabled into acting users × Rows body rows × (n ≡ verticesOf body) × (v ≤ n) × Gathered columns into acting users used body v table
 
 abbrev μ-loop : tie.MeasureT-loop
-μ-loop columns into acting users used body rows n lo₀ hi₀ v₀ lo hi v = n - v
+μ-loop columns into acting users used body rows n table₀ v₀ table v = n - v
 
 byte-requires : tie.Need-byte-requires Inv-loop μ-loop
 byte-requires c κs = search needs
@@ -48,17 +46,32 @@ element-copy-out-high c = search needs
 refusable-requires : tie.Need-refusable-requires Inv-loop μ-loop
 refusable-requires c κs = let i = c .before .before .before .loop .inv in (i .0, i .2, i .3, omega (arith, i .4, c .before .before .loop-test .taken, i .0 .header .vertices-high))
 
-array-read-either : tie.Need-array-read-either Inv-loop μ-loop
-array-read-either c = search needs
+array-read-table : tie.Need-array-read-table Inv-loop μ-loop
+array-read-table c = search needs
 
-either-requires : tie.Need-either-requires Inv-loop μ-loop
-either-requires c κs = search needs
+mul-table : tie.Need-mul-table Inv-loop μ-loop
+mul-table c = search needs
 
-array-read-either-2 : tie.Need-array-read-either-2 Inv-loop μ-loop
-array-read-either-2 c = search needs
+mul-table-2 : tie.Need-mul-table-2 Inv-loop μ-loop
+mul-table-2 c = search needs
 
-either-requires-2 : tie.Need-either-requires-2 Inv-loop μ-loop
-either-requires-2 c κs = search needs
+array-write-table : tie.Need-array-write-table Inv-loop μ-loop
+array-write-table c = search needs
+
+array-read-table-2 : tie.Need-array-read-table-2 Inv-loop μ-loop
+array-read-table-2 c = search needs
+
+mul-table-3 : tie.Need-mul-table-3 Inv-loop μ-loop
+mul-table-3 c = search needs
+
+add-table : tie.Need-add-table Inv-loop μ-loop
+add-table c = search needs
+
+mul-table-4 : tie.Need-mul-table-4 Inv-loop μ-loop
+mul-table-4 c = search needs
+
+array-write-table-2 : tie.Need-array-write-table-2 Inv-loop μ-loop
+array-write-table-2 c = search needs
 
 add-v : tie.Need-add-v Inv-loop μ-loop
 add-v c = search needs
@@ -68,8 +81,8 @@ loop-less c = search needs
 
 loop-again : tie.Need-loop-again Inv-loop μ-loop
 loop-again c =
-    let i = c .before .before .before .before .before .before .loop .inv in
-    (i .0, i .1, i .2, i .3, i .4, omega arith, gather-more (i .6) (c .before .before .refusable .ensures) (c .before .either .ensures) (c .either2 .ensures))
+    let i = c .before .before .before .before .loop .inv in
+    (i .0, i .1, i .2, i .3, i .4, omega arith, gather-more (omega (arith, i .4, c .before .before .before .loop-test .taken, i .0 .header .vertices-high)) (i .6) (c .refusable .ensures))
 
 returns : tie.Need-returns Inv-loop μ-loop
 returns c =
@@ -93,10 +106,15 @@ gather-spec =
     mul-high-2
     element-copy-out-high
     refusable-requires
-    array-read-either
-    either-requires
-    array-read-either-2
-    either-requires-2
+    array-read-table
+    mul-table
+    mul-table-2
+    array-write-table
+    array-read-table-2
+    mul-table-3
+    add-table
+    mul-table-4
+    array-write-table-2
     add-v
     loop-less
     loop-again

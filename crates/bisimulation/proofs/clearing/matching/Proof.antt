@@ -1,7 +1,6 @@
 use Rattle.bisimulation.proofs.ClearLaws.{match-read}
 use native.Mathlib.Omega.{arith}
 use borrow.Author.Needs.{needs}
-use borrow.Author.Needs.{needs}
 use Rattle.bisimulation.proofs.clearing.matching.Statement.{statement}
 use Rattle.bisimulation.proofs.clearing.matching.Tie as tie
 

@@ -4,7 +4,6 @@ use Rattle.chart.proofs.Order.{low-high}
 use Rattle.bisimulation.proofs.ClearLaws.{refuse-none, refuse-some}
 use native.Mathlib.Omega.{arith}
 use borrow.Author.Needs.{needs}
-use borrow.Author.Needs.{needs}
 use Rattle.bisimulation.proofs.clearing.refusable.Statement.{statement}
 use Rattle.bisimulation.proofs.clearing.refusable.Tie as tie
 

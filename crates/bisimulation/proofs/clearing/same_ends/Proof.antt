@@ -1,6 +1,4 @@
 use Rattle.bisimulation.proofs.ClearLaws.{ends-zero, ends-other}
-use native.Mathlib.Omega.{arith}
-use borrow.Author.Needs.{needs}
 use borrow.Author.Needs.{needs}
 use Rattle.bisimulation.proofs.clearing.same_ends.Statement.{statement}
 use Rattle.bisimulation.proofs.clearing.same_ends.Tie as tie

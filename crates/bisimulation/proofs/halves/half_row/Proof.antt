@@ -1,6 +1,4 @@
 use Rattle.bisimulation.proofs.Rows.{half-row}
-use native.Mathlib.Omega.{arith}
-use borrow.Author.Needs.{needs}
 use borrow.Author.Needs.{needs}
 use Rattle.bisimulation.proofs.halves.half_row.Statement.{statement}
 use Rattle.bisimulation.proofs.halves.half_row.Tie as tie

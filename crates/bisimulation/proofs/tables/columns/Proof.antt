@@ -1,6 +1,4 @@
 use Rattle.bisimulation.proofs.TableLaws.{own-columns}
-use native.Mathlib.Omega.{arith}
-use borrow.Author.Needs.{needs}
 use borrow.Author.Needs.{needs}
 use Rattle.bisimulation.proofs.tables.columns.Statement.{statement}
 use Rattle.bisimulation.proofs.tables.columns.Tie as tie

@@ -3,7 +3,7 @@ use mathlib.Core.Path.{_≡_}
 use Prim.Native.Nat.{ℕ, _*_, _-_, _≤_, _<_}
 use lib.ListN.{length}
 use Rattle.bisimulation.specs.Suspects.{SameRow, rowAt}
-use Rattle.bisimulation.proofs.Searching.{between-more}
+use Rattle.bisimulation.proofs.TableLaws.{between-more}
 use Rattle.bisimulation.proofs.TableLaws.{run-first}
 use native.Mathlib.Omega.{arith}
 use borrow.Author.Needs.{needs}

@@ -1,7 +1,5 @@
 use mathlib.Core.Bool.{false≢true}
 use Rattle.bisimulation.proofs.TableLaws.{both-same, same-halves}
-use native.Mathlib.Omega.{arith}
-use borrow.Author.Needs.{needs}
 use borrow.Author.Needs.{needs}
 use Rattle.bisimulation.proofs.tables.same_row.Statement.{statement}
 use Rattle.bisimulation.proofs.tables.same_row.Tie as tie

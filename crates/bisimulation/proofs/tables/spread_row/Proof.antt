@@ -2,7 +2,6 @@ use mathlib.Core.Path.{_∙_}
 use Rattle.bisimulation.proofs.TableLaws.{row-past, half-room, row-both}
 use native.Mathlib.Omega.{arith}
 use borrow.Author.Needs.{needs}
-use borrow.Author.Needs.{needs}
 use Rattle.bisimulation.proofs.tables.spread_row.Statement.{statement}
 use Rattle.bisimulation.proofs.tables.spread_row.Tie as tie
 

@@ -1,7 +1,7 @@
 use mathlib.Core.Path.{_≡_, refl}
 use Prim.Native.Nat.{ℕ, _-_, _≤_, _<_}
 use lib.ListN.{length, getD}
-use Rattle.bisimulation.proofs.Searching.{between-more}
+use Rattle.bisimulation.proofs.TableLaws.{between-more}
 use native.Mathlib.Omega.{arith}
 use borrow.Author.Needs.{needs}
 use Rattle.bisimulation.proofs.tables.word_run.Statement.{statement}
