@@ -1,20 +1,15 @@
 -- 43 to 45 of a related pair by words of steps, and the places of what is not matched.
-use mathlib.Core.Path.{_≡_, refl, sym, subst}
+use mathlib.Core.Path.{_≡_, sym, subst}
 use mathlib.Core.Logic.{_⊎_, inl, inr, _↔_, by-cases}
-use mathlib.Core.Bool.{Bool, true, false, not, false≢true}
 use mathlib.Core.List.{List}
 use Prim.Native.Nat.{ℕ, _+_, _*_, _/_, _%_, _^_, _≤_, _<_}
 use native.Mathlib.Decide.{ℕ-discrete}
 use native.Mathlib.Omega.{arith}
-use lib.Dec.{eqb}
 use lib.ListN.{getD}
 use Rattle.theory.specs.Least.{Least}
-use Rattle.theory.specs.Tests.{Decides}
-use Rattle.theory.proofs.Tests.{decides-eqb, not-so}
 use Rattle.theory.specs.Relations.{Matched, Unmatched, AllMatched, converse}
 use Rattle.bits.specs.Bits.{Bytes}
 use Rattle.bits.specs.Words.{On, LowestOn, Has, HasRow}
-use Rattle.bits.proofs.Words.{subset-le, lowest-law}
 use Rattle.bits.proofs.Sets.{zero-off, has-either}
 use Rattle.chart.specs.Bodies.{verticesOf, countOf, fromOf, actionOf, toOf, WellFormed}
 use Rattle.chart.specs.Leaving.{Rows}
@@ -24,16 +19,9 @@ use Rattle.bisimulation.specs.Answers.{Related, Passes}
 use Rattle.bisimulation.specs.Suspects.{Match, MatchedIn}
 use Rattle.bisimulation.specs.Places.{StepPlace}
 use Rattle.bisimulation.specs.Pairs.{Alone, Told, Sought, Union}
+use Rattle.bisimulation.proofs.Rows.{related-column}
 use Rattle.bisimulation.proofs.PlaceLaws.{one-place, key-order}
 use Rattle.bisimulation.proofs.StepLaws.{step-of, at-step, is-matched, is-match}
-
--- `meets`: a word that is not 0 has a bit
-pub decides-meet : (x y r : ℕ) → x < 2 ^ 64 → ((j : ℕ) → On r j ↔ (On x j × On y j)) → Decides (not (eqb r 0)) ((k : ℕ) × On x k × On y k)
-decides-meet x y r l R = go (eqb r 0) (decides-eqb r 0)
-  where
-    go : (b : Bool) → Decides b (r ≡ 0) → Decides (not b) ((k : ℕ) × On x k × On y k)
-    go true d = ((λ e. absurd (false≢true e)), (λ (k, p, q). absurd (zero-off k (rw (d .0 refl) at (R k .1 (p, q))))))
-    go false d = ((λ e. let L = lowest-law r (not-so d refl) (omega (arith, l, subset-le r x (λ k on. R k .0 on .0))) in let z = R _ .0 (L .on) in (_, z .0, z .1)), (λ h. refl))
 
 -- `matched`: one transition more
 pub matched-more : (into acting body : List ℕ) (a i s x r : ℕ) → a ≤ i → ((k : ℕ) → On s k ↔ MatchedIn into acting body a i k) → ((k : ℕ) → On x k ↔ Match into acting body i k) → ((k : ℕ) → On r k ↔ (On s k ⊎ On x k)) → (k : ℕ) → On r k ↔ MatchedIn into acting body a (i + 1) k
@@ -63,8 +51,8 @@ union-more table v lo hi lo′ hi′ S L H u w l h =
     wider = has-either lo hi (getD table (2 * v) 0) (getD table (2 * v + 1) 0) lo′ hi′ L H
 
 -- a row outside the union is in no set, so each of its pairs passes
-pub union-clear : {into acting words table body e relation : List ℕ} (lo hi : ℕ) → Sought into acting words table body e relation → Union table (verticesOf body) lo hi → (u : ℕ) → ¬ Has lo hi u → (v : ℕ) → Related relation u v → Passes e body relation u v
-union-clear lo hi S U u n v r = S .others u v r (λ h. n (U u v (S .fits .inside u v r .1) h))
+pub union-clear : {into acting words table body e relation : List ℕ} (lo hi : ℕ) → Sought into acting words table body e relation → Union table 128 lo hi → (u : ℕ) → ¬ Has lo hi u → (v : ℕ) → Related relation u v → Passes e body relation u v
+union-clear {relation = relation} lo hi S U u n v r = S .others u v r (λ h. n (U u v (related-column relation u v r) h))
 
 module _ {into acting words e relation body rows : List ℕ} (B : Bytes body) (W : WellFormed body) (R : Rows body rows) (T : Told into acting words e relation) (u : ℕ) {v : ℕ} (low : v < 128) where
   -- the transitions of v stand from its entry up to the next

@@ -1,43 +1,21 @@
 -- The place of a step among the transitions: the bits before it are the transitions before it.
-use mathlib.Core.Path.{_≡_, refl, _∙_, ap, subst}
+use mathlib.Core.Path.{_≡_, refl, ap, subst}
 use mathlib.Core.Logic.{_⊎_, inl, inr, ⊎-elim, by-cases}
 use mathlib.Core.List.{List}
 use Prim.Native.Nat.{ℕ, zero, suc, _+_, _*_, _/_, _%_, _^_, _≤_, _<_}
-use native.Mathlib.Nat.{mod-lt, mod-eq-of-lt}
 use native.Mathlib.Decide.{ℕ-discrete, decLt}
 use native.Mathlib.Omega.{arith}
-use lib.Count.{ones, ones-cat}
 use lib.ListN.{getD}
-use lib.Pow.{pow-pos, mod-pow-add}
 use Rattle.bits.specs.Words.{On}
+use Rattle.bits.specs.Counts.{bitsBelow}
+use Rattle.bits.proofs.Counts.{bit-counted, bit-uncounted}
 use Rattle.chart.specs.Bodies.{countOf, fromOf, actionOf, toOf, keyAt, WellFormed}
 use Rattle.chart.specs.Numbered.{Numbered}
 use Rattle.bisimulation.specs.Places.{Parted}
 
--- the bits below k + 1 are those below k, and bit k
-ones-more : (w k : ℕ) → ones (w % 2 ^ suc k) ≡ ones (w / 2 ^ k % 2) + ones (w % 2 ^ k)
-ones-more w k =
-    let e : 1 + k ≡ suc k = omega arith in
-    ap ones (subst (λ (n : ℕ). w % 2 ^ n ≡ (w / 2 ^ k % 2) * 2 ^ k + w % 2 ^ k) e (mod-pow-add w 1 k)) ∙ ones-cat k (w / 2 ^ k % 2) (w % 2 ^ k) (mod-lt w (pow-pos k))
-
-ones-one : ones 1 ≡ 1
-unfolding ones
-ones-one = refl
-
-ones-zero : ones 0 ≡ 0
-unfolding ones
-ones-zero = refl
-
-ones-on : (w k : ℕ) → On w k → ones (w % 2 ^ suc k) ≡ ones (w % 2 ^ k) + 1
-ones-on w k on = let e : ones (w / 2 ^ k % 2) ≡ 1 = ap ones on ∙ ones-one in omega (arith, ones-more w k, e)
-
-ones-off : (w k : ℕ) → ¬ On w k → ones (w % 2 ^ suc k) ≡ ones (w % 2 ^ k)
-ones-off w k off = let e : ones (w / 2 ^ k % 2) ≡ 0 = ap ones (none (w / 2 ^ k % 2) (mod-lt (w / 2 ^ k) (omega arith)) off) ∙ ones-zero in omega (arith, ones-more w k, e)
-  where
-    none : (d : ℕ) → d < 2 → ¬ (d ≡ 1) → d ≡ 0
-    none zero l n = refl
-    none (suc zero) l n = absurd (n refl)
-    none (suc (suc d)) l n = absurd (omega arith)
+none-below : (x : ℕ) → bitsBelow x 0 ≡ 0
+unfolding bitsBelow
+none-below x = refl
 
 -- a transition with the number n stands where the lower ones end
 pub one-place : {e : List ℕ} {n r : ℕ} → WellFormed e → Parted e n r → (i : ℕ) → i < countOf e → keyAt e i ≡ n → i ≡ r
@@ -117,11 +95,11 @@ module _ {e keys words : List ℕ} {m : ℕ} (W : WellFormed e) (N : Numbered e 
           (λ z. omega (arith, N .coded .rising k j (omega arith) c));
     }
 
-    climb : (k n : ℕ) → Past k n → Parted e n (at + ones (getD words x 0 % 2 ^ k))
+    climb : (k n : ℕ) → Past k n → Parted e n (at + bitsBelow (getD words x 0) k)
     climb zero n S = subst (Parted e n) none (record { within = P .within; below = λ i h. omega (arith, P .below i h, S .low); above = above })
       where
-        none : at ≡ at + ones (getD words x 0 % 2 ^ 0)
-        none = let q : getD words x 0 % 2 ^ 0 ≡ 0 = omega arith in let z : ones (getD words x 0 % 2 ^ 0) ≡ 0 = ap ones q ∙ ones-zero in omega arith
+        none : at ≡ at + bitsBelow (getD words x 0) 0
+        none = omega (arith, none-below (getD words x 0))
 
         above : (i : ℕ) → at ≤ i → i < countOf e → n ≤ keyAt e i
         above i l h =
@@ -131,34 +109,34 @@ module _ {e keys words : List ℕ} {m : ℕ} (W : WellFormed e) (N : Numbered e 
         (λ b.
         let Q = climb k (65536 * x + getD keys k 0) (at-step k b) in
         by-cases (ℕ-discrete (getD words x 0 / 2 ^ k % 2) 1) (with-bit b Q) (without-bit b Q))
-        (λ b. rw (ones-off (getD words x 0) k (λ on. b (N .coded .known x k on))) (climb k n (record { low = S .low; high = S .high; before = λ j l c. S .before j (omega arith) c; after = λ j l c. absurd (omega arith) })))
+        (λ b. rw (bit-uncounted (getD words x 0) k (λ on. b (N .coded .known x k on))) (climb k n (record { low = S .low; high = S .high; before = λ j l c. S .before j (omega arith) c; after = λ j l c. absurd (omega arith) })))
       where
-        with-bit : k < m → Parted e (65536 * x + getD keys k 0) (at + ones (getD words x 0 % 2 ^ k)) → On (getD words x 0) k → Parted e n (at + ones (getD words x 0 % 2 ^ suc k))
+        with-bit : k < m → Parted e (65536 * x + getD keys k 0) (at + bitsBelow (getD words x 0) k) → On (getD words x 0) k → Parted e n (at + bitsBelow (getD words x 0) (suc k))
         with-bit b Q on =
             let (t, h, f, q) = at-key x k on in
             let z = one-place W Q t h q in
-            let c = ones-on (getD words x 0) k on in
+            let c = bit-counted (getD words x 0) k on in
             record {
               within = omega arith;
               below = λ i l. by-cases (ℕ-discrete i t) (λ y. let p : keyAt e i ≡ keyAt e t = ap (keyAt e) y in omega (arith, S .before k (omega arith) b)) (λ y. omega (arith, Q .below i (omega arith), S .before k (omega arith) b));
               above = λ i l g. let a = W .ascending t i (omega arith) g in beyond k n i S g b (omega arith) (λ (y, o). omega arith);
             }
 
-        without-bit : k < m → Parted e (65536 * x + getD keys k 0) (at + ones (getD words x 0 % 2 ^ k)) → ¬ On (getD words x 0) k → Parted e n (at + ones (getD words x 0 % 2 ^ suc k))
+        without-bit : k < m → Parted e (65536 * x + getD keys k 0) (at + bitsBelow (getD words x 0) k) → ¬ On (getD words x 0) k → Parted e n (at + bitsBelow (getD words x 0) (suc k))
         without-bit b Q off =
-            rw (ones-off (getD words x 0) k off)
+            rw (bit-uncounted (getD words x 0) k off)
             (record {
               within = Q .within;
               below = λ i l. omega (arith, Q .below i l, S .before k (omega arith) b);
               above = λ i l g. beyond k n i S g b (Q .above i l g) (λ (y, o). off o);
             })
 
-    pub place-step : (k r : ℕ) → k < m → r ≡ ones (getD words x 0 % 2 ^ k) → Parted e (65536 * x + getD keys k 0) (at + r)
+    pub place-step : (k r : ℕ) → k < m → r ≡ bitsBelow (getD words x 0) k → Parted e (65536 * x + getD keys k 0) (at + r)
     place-step k r b q = rw q (climb k (65536 * x + getD keys k 0) (at-step k b))
 
-    -- a word of 64 bits has all its bits below 64
-    pub place-vertex : (r : ℕ) → getD words x 0 < 2 ^ 64 → r ≡ ones (getD words x 0) → Parted e (65536 * (x + 1)) (at + r)
-    place-vertex r l q = rw (q, ← mod-eq-of-lt l) (climb 64 (65536 * (x + 1)) (record {
+    -- a vertex has no step from 64 on
+    pub place-vertex : (r : ℕ) → r ≡ bitsBelow (getD words x 0) 64 → Parted e (65536 * (x + 1)) (at + r)
+    place-vertex r q = rw q (climb 64 (65536 * (x + 1)) (record {
       low = omega arith;
       high = omega arith;
       before = λ j h c. omega (arith, N .coded .fit j c);

@@ -1,30 +1,22 @@
 // 43 to 45 of the pairs which the sets do not let pass, and the place of the first refusal.
 use super::clearing::matching;
 use super::places::step_place;
-use bits::both;
 use bits::but;
 use bits::byte;
 use bits::either;
 use bits::holds;
 use bits::lowest;
+use bits::meets;
 use report::Place;
 use report::Stage;
 ghost use mathlib.Core.Path.{_≡_};
 ghost use mathlib.Core.Logic.{_↔_};
 ghost use Prim.Native.Nat.{ℕ, _≤_, _<_};
 ghost use lib.ListN.{length, getD};
-ghost use Rattle.theory.specs.Tests.{Decides};
 ghost use Rattle.bits.specs.Words.{On};
 ghost use Rattle.chart.specs.Bodies.{verticesOf, countOf, WellFormed};
 ghost use Rattle.bisimulation.specs.Suspects.{MatchedIn};
 ghost use Rattle.bisimulation.specs.Pairs.{Ready, Alone, Union, PairTold, PairSought, RowSought, AllSought};
-
-// Whether two words have a bit in common.
-fn meets(x: u64, y: u64) -> bool
-    ensures { λ r. ⌜ Decides r ((k : ℕ) × On x k × On y k) ⌝ }
-{
-    both(x, y) != 0
-}
 
 // The steps that match one of the transitions from a up to b.
 fn matched(into: &[u64; 256], acting: &[u64; 256], body: &[u8], a: usize, b: usize) -> u64
@@ -149,7 +141,7 @@ fn suspect_row(
     lo: u64,
     hi: u64,
 ) -> Stage
-    requires { ⌜ Ready (now into) (now acting) (now words) (now body) (now rows) × (length (now table) ≡ 256) × (u < 128) × Union (now table) (verticesOf (now body)) lo hi ⌝ }
+    requires { ⌜ Ready (now into) (now acting) (now words) (now body) (now rows) × (length (now table) ≡ 256) × (u < 128) × Union (now table) 128 lo hi ⌝ }
     ensures { λ r. ⌜ RowSought (now (into .entry)) (now (acting .entry)) (now (words .entry)) (now (table .entry)) (now (body .entry)) u r ⌝ }
 {
     if !holds(lo, hi, u) {
@@ -158,15 +150,15 @@ fn suspect_row(
     row(into, acting, words, table, body, rows, u)
 }
 
-// The rows of the first n sets of a table.
-fn union(table: &[u64; 256], n: usize) -> [u64; 2]
-    requires { ⌜ (length (now table) ≡ 256) × (n ≤ 128) ⌝ }
-    ensures { λ r. ⌜ (length r ≡ 2) × Union (now (table .entry)) n (getD r 0 0) (getD r 1 0) ⌝ }
+// The rows of all sets of a table.
+fn union(table: &[u64; 256]) -> [u64; 2]
+    requires { ⌜ length (now table) ≡ 256 ⌝ }
+    ensures { λ r. ⌜ (length r ≡ 2) × Union (now (table .entry)) 128 (getD r 0 0) (getD r 1 0) ⌝ }
 {
     let mut lo: u64 = 0;
     let mut hi: u64 = 0;
     let mut v: usize = 0;
-    while v < n {
+    while v < 128 {
         lo = either(lo, table[2 * v]);
         hi = either(hi, table[2 * v + 1]);
         v += 1;
@@ -187,7 +179,7 @@ pub(crate) fn search(
     requires { ⌜ Ready (now into) (now acting) (now words) (now body) (now rows) × (length (now table) ≡ 256) × (vertices ≤ 128) ⌝ }
     ensures { λ r. ⌜ AllSought (now (into .entry)) (now (acting .entry)) (now (words .entry)) (now (table .entry)) (now (body .entry)) vertices r ⌝ }
 {
-    let set = union(table, byte(body, 0));
+    let set = union(table);
     let lo = set[0];
     let hi = set[1];
     if (lo == 0) & (hi == 0) {

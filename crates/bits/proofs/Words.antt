@@ -1,14 +1,17 @@
 -- The bits of words: what each operation on words does to them.
 use mathlib.Core.Path.{_≡_, refl, sym, ap, _∙_, subst}
 use mathlib.Core.Logic.{_≢_, _⊎_, inl, inr, _↔_}
+use mathlib.Core.Bool.{Bool, true, false, not, false≢true}
 use Prim.Native.Nat.{ℕ, zero, suc, min, max, _+_, _-_, _*_, _/_, _%_, _^_, _≤_, _<_}
 use native.Mathlib.Nat.{div-one, div-self, zero-div, div-eq-of-lt, div-div-eq-div-mul, mul-comm, mod-lt, mod-eq-of-lt, mul-mod-left, mul-div-cancel, pow-suc, eq-or-lt-of-le, one-le-pow, pow-le-pow-right, div-eq-of-lt-le}
 use native.Mathlib.Decide.{decLt}
 use native.Mathlib.Omega.{arith}
 use lib.Arith.{digits-mod, bin-ind}
+use lib.Dec.{eqb}
 use lib.Pow.{pow-pos, pow-lt, pow-add, pow-mono, shr-shr}
 use lib.Bits.{bitAnd, bitOr, bitXor, differ, and-step, or-step, xor-step, and-shr, or-shr, xor-shr}
 use lib.Count.{trailingZeros, under, trailing-le, leadingZeros, leading-top}
+use borrow.Author.Tests.{eq-eqb, eqb-true}
 use Rattle.bits.specs.Words.{On, LowestOn, With, Without, LowestFrom}
 
 -- the digit of x at k
@@ -169,6 +172,17 @@ lowest-law x some h = record { within = within; on = trailing 64 x .0 within; be
   where
     within : trailingZeros 64 x < 64
     within = elim (eq-or-lt-of-le (trailing-le 64 x)) [ inl e ↦ absurd (some (no-bit 64 x h (λ k i. trailing 64 x .1 k (omega (arith, i, e))))) | inr l ↦ l ]
+
+-- words with a bit in common: r has the bits of both, and is not 0
+pub meet : (x y r : ℕ) → x < 2 ^ 64 → ((j : ℕ) → On r j ↔ (On x j × On y j)) → (not (eqb r 0) ≡ true) ↔ ((k : ℕ) × On x k × On y k)
+meet x y r l R = go (eqb r 0) refl
+  where
+    go : (b : Bool) → eqb r 0 ≡ b → (not b ≡ true) ↔ ((k : ℕ) × On x k × On y k)
+    go true e = ((λ f. absurd (false≢true f)), (λ (k, p, q). absurd (nothing k (eqb-true r 0 e) (R k .1 (p, q)))))
+      where
+        nothing : (k : ℕ) → r ≡ 0 → ¬ On r k
+        nothing k z on = let f : r / 2 ^ k ≡ 0 = rw z (zero-div (2 ^ k)) in let g : digit r k ≡ 0 = rw f in omega (arith, g, on)
+    go false e = ((λ f. let L = lowest-law r (λ z. false≢true (sym e ∙ eq-eqb r 0 z)) (omega (arith, l, subset-le r x (λ k on. R k .0 on .0))) in let z = R _ .0 (L .on) in (_, z .0, z .1)), (λ h. refl))
 
 -- where k is the lowest bit of x, one less than x has the bits of x above k, and not k
 lowered : (k x i : ℕ) → On x k → ((j : ℕ) → j < k → ¬ On x j) → (On x i × On (x - 1) i) ↔ (On x i × (i ≢ k))

@@ -7,6 +7,7 @@ ghost use lib.Dec.{ltb};
 ghost use lib.ListN.{length, getD};
 ghost use Rattle.bits.specs.Bits.{hasBit};
 ghost use Rattle.bits.specs.Words.{On, LowestOn, LowestFrom, With, Without, Has, Inserted};
+ghost use Rattle.bits.specs.Counts.{bitsBelow};
 ghost use Rattle.bits.specs.Packed.{Packed};
 ghost use Rattle.bits.specs.Unions.{Joined, Spread, United, Between};
 
@@ -127,6 +128,28 @@ pub fn but(x: u64, y: u64) -> u64
     ensures { λ r. ⌜ ((j : ℕ) → On r j ↔ (On x j × (¬ On y j))) ⌝ }
 {
     x ^ (x & y)
+}
+
+// How many bits of a word are set.
+pub fn count(x: u64) -> usize
+    ensures { λ r. ⌜ (r ≡ bitsBelow x 64) × (r ≤ 64) ⌝ }
+{
+    u64::count_ones(x) as usize
+}
+
+// How many bits of a word below bit k are set.
+pub fn count_below(x: u64, k: usize) -> usize
+    requires { ⌜ k < 64 ⌝ }
+    ensures { λ r. ⌜ (r ≡ bitsBelow x k) × (r ≤ 64) ⌝ }
+{
+    count(x % (1u64 << k))
+}
+
+// Whether two words have a bit in common.
+pub fn meets(x: u64, y: u64) -> bool
+    ensures { λ r. ⌜ (r ≡ true) ↔ ((k : ℕ) × On x k × On y k) ⌝ }
+{
+    both(x, y) != 0
 }
 
 // Whether bit k is set.

@@ -5,7 +5,6 @@ use lib.ListN.{length, getD}
 use borrow.Author.Count.{below-more}
 use Rattle.theory.specs.Relations.{related, all-pass}
 use Rattle.bits.proofs.Sets.{none}
-use Rattle.chart.specs.Bodies.{verticesOf}
 use Rattle.bisimulation.specs.Answers.{Related, Passes}
 use Rattle.bisimulation.specs.Pairs.{Ready, Sought, Union}
 use Rattle.bisimulation.proofs.PairChecks.{rows-stop}
@@ -17,16 +16,13 @@ use Rattle.bisimulation.proofs.pairs.search.Statement.{statement}
 use Rattle.bisimulation.proofs.pairs.search.Tie as tie
 
 abbrev Inv-loop : tie.InvT-loop
-Inv-loop into acting words table body rows vertices lo hi u₀ u = Ready into acting words body rows × (length table ≡ 256) × (vertices ≤ 128) × Union table (verticesOf body) lo hi × ((e relation : List ℕ) → Sought into acting words table body e relation → (a : ℕ) → a < u → (w : ℕ) → Related relation a w → Passes e body relation a w)
+Inv-loop into acting words table body rows vertices lo hi u₀ u = Ready into acting words body rows × (length table ≡ 256) × (vertices ≤ 128) × Union table 128 lo hi × ((e relation : List ℕ) → Sought into acting words table body e relation → (a : ℕ) → a < u → (w : ℕ) → Related relation a w → Passes e body relation a w)
 
 abbrev μ-loop : tie.MeasureT-loop
 μ-loop into acting words table body rows vertices lo hi u₀ u = vertices - u
 
-byte-requires : tie.Need-byte-requires Inv-loop μ-loop
-byte-requires c κs = let l = c .before .pre .0 .formed .header .long in omega arith
-
 union-requires : tie.Need-union-requires Inv-loop μ-loop
-union-requires c κs = let p = c .before .before .pre in (p .1, omega (arith, c .byte .ensures .0, p .0 .formed .header .vertices-high))
+union-requires c κs = c .before .pre .1
 
 array-read-lo : tie.Need-array-read-lo Inv-loop μ-loop
 array-read-lo c = search needs
@@ -38,10 +34,10 @@ returns : tie.Need-returns Inv-loop μ-loop
 returns c = λ e relation S q z.
     let U = c .before .union in
     let (f, g) = both-zero (getD (U .result) 0 0) (getD (U .result) 1 0) (c .if1 .taken) in
-    (related, all-pass z (λ u v r. union-clear (getD (U .result) 0 0) (getD (U .result) 1 0) S (rw (c .before .before .byte .ensures .0) at (U .ensures .1)) u (λ h. none u (rw (f, g) at h)) v r), refl)
+    (related, all-pass z (λ u v r. union-clear (getD (U .result) 0 0) (getD (U .result) 1 0) S (U .ensures .1) u (λ h. none u (rw (f, g) at h)) v r), refl)
 
 loop-holds : tie.Need-loop-holds Inv-loop μ-loop
-loop-holds c = let p = c .before .before .before .before .pre in (p .0, p .1, p .2, rw (c .before .before .byte .ensures .0) at (c .before .union .ensures .1), λ e relation S a h. absurd (omega arith))
+loop-holds c = let p = c .before .before .before .pre in (p .0, p .1, p .2, c .before .union .ensures .1, λ e relation S a h. absurd (omega arith))
 
 suspect-row-requires : tie.Need-suspect-row-requires Inv-loop μ-loop
 suspect-row-requires c κs = let i = c .before .loop .inv in (i .0, i .1, omega (arith, i .2, c .loop-test .taken), i .3)
@@ -75,7 +71,6 @@ search-spec =
     (tie.spec
     Inv-loop
     μ-loop
-    byte-requires
     union-requires
     array-read-lo
     array-read-hi

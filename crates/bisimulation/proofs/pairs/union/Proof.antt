@@ -9,13 +9,13 @@ use Rattle.bisimulation.proofs.pairs.union.Statement.{statement}
 use Rattle.bisimulation.proofs.pairs.union.Tie as tie
 
 abbrev Inv-loop : tie.InvT-loop
-Inv-loop table n lo₀ hi₀ v₀ lo hi v = (length table ≡ 256) × (n ≤ 128) × (v ≤ n) × Union table v lo hi
+Inv-loop table lo₀ hi₀ v₀ lo hi v = (length table ≡ 256) × (v ≤ 128) × Union table v lo hi
 
 abbrev μ-loop : tie.MeasureT-loop
-μ-loop table n lo₀ hi₀ v₀ lo hi v = n - v
+μ-loop table lo₀ hi₀ v₀ lo hi v = 128 - v
 
 loop-holds : tie.Need-loop-holds Inv-loop μ-loop
-loop-holds c = let p = c .pre in (p .0, p .1, omega arith, λ u v h. absurd (omega arith))
+loop-holds c = (c .pre, omega arith, λ u v h. absurd (omega arith))
 
 mul-either : tie.Need-mul-either Inv-loop μ-loop
 mul-either c = search needs
@@ -54,10 +54,10 @@ loop-again : tie.Need-loop-again Inv-loop μ-loop
 loop-again c =
     let l = c .before .before .before .before .before .loop in
     let i = l .inv in
-    (i .0, i .1, omega arith, union-more (c .before .before .before .before .before .before .args .table .now) (l .v) (l .lo) (l .hi) (c .before .before .either .result) (c .either2 .result) (i .3) (c .before .before .either .ensures) (c .either2 .ensures))
+    (i .0, omega arith, union-more (c .before .before .before .before .before .before .args .table .now) (l .v) (l .lo) (l .hi) (c .before .before .either .result) (c .either2 .result) (i .2) (c .before .before .either .ensures) (c .either2 .ensures))
 
 returns : tie.Need-returns Inv-loop μ-loop
-returns c = let e : c .before .loop .v ≡ c .before .before .args .n = omega arith in (refl, rw e at (c .before .loop .inv .3))
+returns c = let e : c .before .loop .v ≡ 128 = omega arith in (refl, rw e at (c .before .loop .inv .2))
 
 pub union-spec : {M : Type 1} → statement M
 union-spec =

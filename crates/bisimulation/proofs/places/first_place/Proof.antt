@@ -17,14 +17,14 @@ abbrev μ-loop : tie.MeasureT-loop
 loop-holds : tie.Need-loop-holds Inv-loop μ-loop
 loop-holds c = let p = c .pre in (p .0, p .1, omega arith, omega arith, λ e keys m W N. places-start W N)
 
-mul-bit-count : tie.Need-mul-bit-count Inv-loop μ-loop
-mul-bit-count c = search needs
+mul-count : tie.Need-mul-count Inv-loop μ-loop
+mul-count c = search needs
 
-element-copy-out-bit-count : tie.Need-element-copy-out-bit-count Inv-loop μ-loop
-element-copy-out-bit-count c = search needs
+element-copy-out-count : tie.Need-element-copy-out-count Inv-loop μ-loop
+element-copy-out-count c = search needs
 
-bit-count-requires : tie.Need-bit-count-requires Inv-loop μ-loop
-bit-count-requires c κs = search needs
+count-requires : tie.Need-count-requires Inv-loop μ-loop
+count-requires c κs = search needs
 
 add-at : tie.Need-add-at Inv-loop μ-loop
 add-at c = search needs
@@ -38,8 +38,8 @@ loop-less c = search needs
 loop-again : tie.Need-loop-again Inv-loop μ-loop
 loop-again c =
     let i = c .before .before .before .loop .inv in
-    let b = c .bit-count .ensures in
-    (i .0, i .1, omega arith, omega arith, λ e keys m W N. place-vertex W N _ (i .4 e keys m W N) _ (b .2) (b .0))
+    let b = c .count .ensures in
+    (i .0, i .1, omega arith, omega arith, λ e keys m W N. place-vertex W N _ (i .4 e keys m W N) _ (b .0))
 
 returns : tie.Need-returns Inv-loop μ-loop
 returns c =
@@ -54,9 +54,9 @@ first-place-spec =
     Inv-loop
     μ-loop
     loop-holds
-    mul-bit-count
-    element-copy-out-bit-count
-    bit-count-requires
+    mul-count
+    element-copy-out-count
+    count-requires
     add-at
     add-x
     loop-less

@@ -1,0 +1,50 @@
+-- Bits counted one by one, and by the machine.
+use mathlib.Core.Path.{_≡_, refl, sym, _∙_, ap, subst}
+use Prim.Native.Nat.{ℕ, zero, suc, _+_, _*_, _/_, _%_, _^_, _≤_, _<_}
+use native.Mathlib.Nat.{mod-lt, mod-eq-of-lt}
+use native.Mathlib.Omega.{arith}
+use lib.Count.{ones, ones-cat, ones-le}
+use lib.Pow.{pow-pos, pow-lt, mod-pow-add}
+use Rattle.bits.specs.Words.{On}
+use Rattle.bits.specs.Counts.{bitsBelow}
+
+-- one digit more
+ones-digit : (d : ℕ) → d < 2 → ones d ≡ d
+unfolding ones
+ones-digit zero l = refl
+ones-digit (suc zero) l = refl
+ones-digit (suc (suc d)) l = absurd (omega arith)
+
+ones-below : (x k : ℕ) → ones (x % 2 ^ k) ≡ bitsBelow x k
+unfolding ones bitsBelow
+ones-below x zero = let e : x % 2 ^ 0 ≡ 0 = omega arith in ap ones e
+ones-below x (suc k) =
+    let e : 1 + k ≡ suc k = omega arith in
+    let f = subst (λ (n : ℕ). x % 2 ^ n ≡ (x / 2 ^ k % 2) * 2 ^ k + x % 2 ^ k) e (mod-pow-add x 1 k) in
+    let g = ap ones f ∙ ones-cat k (x / 2 ^ k % 2) (x % 2 ^ k) (mod-lt x (pow-pos k)) in
+    let h = ones-digit (x / 2 ^ k % 2) (mod-lt (x / 2 ^ k) (omega arith)) in
+    let i = ones-below x k in
+    omega arith
+
+pub count-word : (x : ℕ) → x < 2 ^ 64 → ones x ≡ bitsBelow x 64
+count-word x l = ap ones (sym (mod-eq-of-lt l)) ∙ ones-below x 64
+
+pub count-part : (x k : ℕ) → k < 64 → bitsBelow (x % 2 ^ k) 64 ≡ bitsBelow x k
+count-part x k l = let m = mod-lt x (pow-pos k) in let p = pow-lt {i = k} {j = 64} l in sym (count-word (x % 2 ^ k) (omega arith)) ∙ ones-below x k
+
+pub count-few : (x : ℕ) → x < 2 ^ 64 → ones x ≤ 64
+count-few x l = ones-le 64 x l
+
+-- a bit that is set counts, and another does not
+pub bit-counted : (x k : ℕ) → On x k → bitsBelow x (suc k) ≡ bitsBelow x k + 1
+unfolding bitsBelow
+bit-counted x k on = omega arith
+
+pub bit-uncounted : (x k : ℕ) → ¬ On x k → bitsBelow x (suc k) ≡ bitsBelow x k
+unfolding bitsBelow
+bit-uncounted x k off = let e = none (x / 2 ^ k % 2) (mod-lt (x / 2 ^ k) (omega arith)) off in omega arith
+  where
+    none : (d : ℕ) → d < 2 → ¬ (d ≡ 1) → d ≡ 0
+    none zero l n = refl
+    none (suc zero) l n = absurd (n refl)
+    none (suc (suc d)) l n = absurd (omega arith)
