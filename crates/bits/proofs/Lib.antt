@@ -5,3 +5,4 @@ pub mod Counts
 pub mod Sets
 pub mod Unions
 pub mod Packed
+pub mod Tables

@@ -78,6 +78,14 @@ with-high lo hi k r l W w m = pick (ltb w 64) refl
     pick true e = let h = ltb-true w 64 e in stays (λ f. omega (arith, h, f))
     pick false e = let h = ltb-false w 64 e in ((λ on. onto (λ f. omega (arith, h, f, m)) (W .exactly (w % 64) .0 on)), (λ g. W .exactly (w % 64) .1 (onto (λ f. omega (arith, h, f, m)) g)))
 
+-- one number more, in the word of the two that has its bit
+pub has-with : (lo hi w rlo rhi : ℕ) → ((j : ℕ) → On rlo j ↔ (On lo j ⊎ ((w < 64) × (j ≡ w)))) → ((j : ℕ) → On rhi j ↔ (On hi j ⊎ (64 + j ≡ w))) → (y : ℕ) → y < 128 → Has rlo rhi y ↔ (Has lo hi y ⊎ (y ≡ w))
+has-with lo hi w rlo rhi f g y l = pick (ltb y 64) refl
+  where
+    pick : (b : Bool) → ltb y 64 ≡ b → On (cond b rlo rhi) (y % 64) ↔ (On (cond b lo hi) (y % 64) ⊎ (y ≡ w))
+    pick true e = let h = ltb-true y 64 e in ((λ on. onto (λ p. omega (arith, h, p .1)) (f (y % 64) .0 on)), (λ p. f (y % 64) .1 (onto (λ q. (omega (arith, h, q), omega (arith, h, q))) p)))
+    pick false e = let h = ltb-false y 64 e in ((λ on. onto (λ p. omega (arith, h, p, l)) (g (y % 64) .0 on)), (λ p. g (y % 64) .1 (onto (λ q. omega (arith, h, q, l)) p)))
+
 -- one number less, in the first word or in the second
 pub without-low : (lo hi k r : ℕ) → k < 64 → Without lo k r → (w : ℕ) → Has r hi w ↔ (Has lo hi w × (w ≢ k))
 without-low lo hi k r l W w = pick (ltb w 64) refl

@@ -4,7 +4,7 @@ use mathlib.Core.Logic.{_≢_, _⊎_, inl, inr, _↔_}
 use mathlib.Core.Bool.{Bool, true, false, not, false≢true}
 use Prim.Native.Nat.{ℕ, zero, suc, min, max, _+_, _-_, _*_, _/_, _%_, _^_, _≤_, _<_}
 use native.Mathlib.Nat.{div-one, div-self, zero-div, div-eq-of-lt, div-div-eq-div-mul, mul-comm, mod-lt, mod-eq-of-lt, mul-mod-left, mul-div-cancel, pow-suc, eq-or-lt-of-le, one-le-pow, pow-le-pow-right, div-eq-of-lt-le}
-use native.Mathlib.Decide.{decLt}
+use native.Mathlib.Decide.{decLt, ℕ-discrete}
 use native.Mathlib.Omega.{arith}
 use lib.Arith.{digits-mod, bin-ind}
 use lib.Dec.{eqb}
@@ -12,7 +12,7 @@ use lib.Pow.{pow-pos, pow-lt, pow-add, pow-mono, shr-shr}
 use lib.Bits.{bitAnd, bitOr, bitXor, differ, and-step, or-step, xor-step, and-shr, or-shr, xor-shr}
 use lib.Count.{trailingZeros, under, trailing-le, leadingZeros, leading-top}
 use borrow.Author.Tests.{eq-eqb, eqb-true}
-use Rattle.bits.specs.Words.{On, LowestOn, With, Without, LowestFrom}
+use Rattle.bits.specs.Words.{On, LowestOn, HighestOn, With, Without, LowestFrom}
 
 -- the digit of x at k
 abbrev pub digit : ℕ → ℕ → ℕ
@@ -221,17 +221,6 @@ rest-law x k L = record { exactly = exactly; less = λ on. subset-lt (bitAnd x (
       (λ h. both-on x (x - 1) j .1 (lowered k x j (L .on) (L .below) .1 h)),
     )
 
-pub highest-law : (x : ℕ) → x ≢ 0 → x < 2 ^ 64 → (leadingZeros 64 x ≤ 63) × (63 - leadingZeros 64 x < 64) × On x (63 - leadingZeros 64 x)
-highest-law x some h =
-    let t = leading-top 64 x (pos x some) h in
-    let e : 63 - leadingZeros 64 x ≡ t .0 = omega (arith, t .1) in
-    let one : x / 2 ^ t .0 ≡ 1 = div-eq-of-lt-le (2 ^ t .0) (omega (arith, t .2)) (omega (arith, t .3, pow-suc 2 (t .0))) in
-    (omega (arith, t .1), omega arith, subst (λ (k : ℕ). On x k) (sym e) (ap (λ (y : ℕ). y % 2) one))
-  where
-    pos : (n : ℕ) → n ≢ 0 → 0 < n
-    pos zero f = absurd (f refl)
-    pos (suc n) f = omega arith
-
 -- a number below 2 to the power d has its bits below d
 pub bit-below : (d x k : ℕ) → x < 2 ^ d → On x k → k < d
 bit-below d x k l on = elim (decLt k d) [ yes h ↦ h | no h ↦ absurd (off (omega (arith, h))) ]
@@ -241,6 +230,23 @@ bit-below d x k l on = elim (decLt k d) [ yes h ↦ h | no h ↦ absurd (off (om
         let e : x / 2 ^ k ≡ 0 = div-eq-of-lt (omega (arith, l, pow-mono {i = d} {j = k} g)) in
         let f : digit x k ≡ 0 = rw e in
         omega (arith, f, on)
+
+pub highest-law : (x : ℕ) → x ≢ 0 → x < 2 ^ 64 → (leadingZeros 64 x ≤ 63) × HighestOn x (63 - leadingZeros 64 x)
+highest-law x some h =
+    let t = leading-top 64 x (pos x some) h in
+    let e : 63 - leadingZeros 64 x ≡ t .0 = omega (arith, t .1) in
+    let one : x / 2 ^ t .0 ≡ 1 = div-eq-of-lt-le (2 ^ t .0) (omega (arith, t .2)) (omega (arith, t .3, pow-suc 2 (t .0))) in (
+      omega (arith, t .1),
+      record {
+        within = omega arith;
+        on = subst (λ (k : ℕ). On x k) (sym e) (ap (λ (y : ℕ). y % 2) one);
+        above = λ k l on. let i = bit-below (suc (t .0)) x k (t .3) on in absurd (omega (arith, e, i, l));
+      },
+    )
+  where
+    pos : (n : ℕ) → n ≢ 0 → 0 < n
+    pos zero f = absurd (f refl)
+    pos (suc n) f = omega arith
 
 -- the bits of x from s on, moved down
 pub shifted : (x s k : ℕ) → On (x / 2 ^ s) k ↔ On x (s + k)
@@ -268,3 +274,71 @@ lowest-from-some x k y r h D L =
       on = λ l. here;
       below = λ j i l on. let q : k + (j - k) ≡ j = omega (arith, i) in L .below (j - k) (omega (arith, i, l)) (D (j - k) .1 (rw q on));
     }
+
+-- ONE BIT MORE where p is 1, and nothing where p is 0
+moved-one : (p k : ℕ) → p ≡ 1 → k < 64 → (p * 2 ^ k) % 18446744073709551616 ≡ 2 ^ k
+moved-one p k e h = ap (λ (q : ℕ). (q * 2 ^ k) % 18446744073709551616) e ∙ bit-worth k h
+
+moved-none : (p k : ℕ) → p ≡ 0 → (p * 2 ^ k) % 18446744073709551616 ≡ 0
+moved-none p k e = let z : 0 * 2 ^ k ≡ 0 = omega arith in ap (λ (q : ℕ). (q * 2 ^ k) % 18446744073709551616) e ∙ ap (λ (q : ℕ). q % 18446744073709551616) z
+
+with-moved : (x p k j : ℕ) → p < 2 → k < 64 → On (bitOr x ((p * 2 ^ k) % 18446744073709551616)) j ↔ (On x j ⊎ ((p ≡ 1) × (j ≡ k)))
+with-moved x p k j l h = elim (ℕ-discrete p 1) [ yes e ↦ one e | no e ↦ nothing e ]
+  where
+    one : p ≡ 1 → On (bitOr x ((p * 2 ^ k) % 18446744073709551616)) j ↔ (On x j ⊎ ((p ≡ 1) × (j ≡ k)))
+    one e =
+        let W = with-law x k .exactly j in
+        subst (λ (y : ℕ). On (bitOr x y) j ↔ (On x j ⊎ ((p ≡ 1) × (j ≡ k)))) (sym (moved-one p k e h))
+        ((λ on. told (W .0 on)), (λ s. W .1 (back s)))
+      where
+        told : (On x j ⊎ (j ≡ k)) → On x j ⊎ ((p ≡ 1) × (j ≡ k))
+        told (inl o) = inl o
+        told (inr f) = inr (e, f)
+
+        back : (On x j ⊎ ((p ≡ 1) × (j ≡ k))) → On x j ⊎ (j ≡ k)
+        back (inl o) = inl o
+        back (inr f) = inr (f .1)
+
+    nothing : ¬ (p ≡ 1) → On (bitOr x ((p * 2 ^ k) % 18446744073709551616)) j ↔ (On x j ⊎ ((p ≡ 1) × (j ≡ k)))
+    nothing f =
+        let e = either-on x 0 j in
+        subst (λ (y : ℕ). On (bitOr x y) j ↔ (On x j ⊎ ((p ≡ 1) × (j ≡ k)))) (sym (moved-none p k (omega (arith, l, f))))
+        ((λ on. told (e .0 on)), (λ s. e .1 (back s)))
+      where
+        off : ¬ On 0 j
+        off o = let z : digit 0 j ≡ 0 = rw (zero-div (2 ^ j)) in omega (arith, z, o)
+
+        told : (On x j ⊎ On 0 j) → On x j ⊎ ((p ≡ 1) × (j ≡ k))
+        told (inl o) = inl o
+        told (inr o) = absurd (off o)
+
+        back : (On x j ⊎ ((p ≡ 1) × (j ≡ k))) → On x j ⊎ On 0 j
+        back (inl o) = inl o
+        back (inr g) = absurd (f (g .0))
+
+pub low-with-law : (x w j : ℕ) → w < 128 → On (bitOr x (((1 - w / 64) * 2 ^ (w % 64)) % 18446744073709551616)) j ↔ (On x j ⊎ ((w < 64) × (j ≡ w)))
+low-with-law x w j h =
+    let M = with-moved x (1 - w / 64) (w % 64) j (omega arith) (omega arith) in
+    ((λ on. told (M .0 on)), (λ s. M .1 (back s)))
+  where
+    told : (On x j ⊎ ((1 - w / 64 ≡ 1) × (j ≡ w % 64))) → On x j ⊎ ((w < 64) × (j ≡ w))
+    told (inl o) = inl o
+    told (inr f) = inr (omega (arith, f .0), omega (arith, f .0, f .1))
+
+    back : (On x j ⊎ ((w < 64) × (j ≡ w))) → On x j ⊎ ((1 - w / 64 ≡ 1) × (j ≡ w % 64))
+    back (inl o) = inl o
+    back (inr f) = inr (omega (arith, f .0), omega (arith, f .0, f .1))
+
+pub high-with-law : (x w j : ℕ) → w < 128 → On (bitOr x ((w / 64 * 2 ^ (w % 64)) % 18446744073709551616)) j ↔ (On x j ⊎ (64 + j ≡ w))
+high-with-law x w j h =
+    let M = with-moved x (w / 64) (w % 64) j (omega arith) (omega arith) in
+    ((λ on. told (M .0 on)), (λ s. M .1 (back s)))
+  where
+    told : (On x j ⊎ ((w / 64 ≡ 1) × (j ≡ w % 64))) → On x j ⊎ (64 + j ≡ w)
+    told (inl o) = inl o
+    told (inr f) = inr (omega (arith, f .0, f .1))
+
+    -- a bit of a word is below 64
+    back : (On x j ⊎ (64 + j ≡ w)) → On x j ⊎ ((w / 64 ≡ 1) × (j ≡ w % 64))
+    back (inl o) = inl o
+    back (inr f) = inr (omega (arith, f, h), omega (arith, f, h))

@@ -4,3 +4,4 @@ pub mod Words
 pub mod Counts
 pub mod Unions
 pub mod Packed
+pub mod Tables

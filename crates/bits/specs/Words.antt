@@ -17,6 +17,12 @@ pub record LowestOn (x r : ℕ) : Type 0 where
   pub on : On x r
   pub below : (k : ℕ) → k < r → ¬ On x k
 
+-- r is the highest bit of x that is set
+pub record HighestOn (x r : ℕ) : Type 0 where
+  pub within : r < 64
+  pub on : On x r
+  pub above : (k : ℕ) → r < k → ¬ On x k
+
 -- r is the lowest bit of x, from k on, that is set, or 64
 pub record LowestFrom (x k r : ℕ) : Type 0 where
   pub from : k ≤ r

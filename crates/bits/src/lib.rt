@@ -6,7 +6,7 @@ ghost use Prim.Native.Nat.{ℕ, _+_, _*_, _≤_, _<_, _^_};
 ghost use lib.Dec.{ltb};
 ghost use lib.ListN.{length, getD};
 ghost use Rattle.bits.specs.Bits.{hasBit};
-ghost use Rattle.bits.specs.Words.{On, LowestOn, LowestFrom, With, Without, Has, Inserted};
+ghost use Rattle.bits.specs.Words.{On, LowestOn, HighestOn, LowestFrom, With, Without, Has, Inserted};
 ghost use Rattle.bits.specs.Counts.{bitsBelow};
 ghost use Rattle.bits.specs.Packed.{Packed};
 ghost use Rattle.bits.specs.Unions.{Joined, Spread, United, Between};
@@ -80,7 +80,7 @@ pub fn lowest(x: u64) -> usize
 // The highest bit of a word that is set.
 pub fn highest(x: u64) -> usize
     requires { ⌜ x ≢ 0 ⌝ }
-    ensures { λ r. ⌜ (r < 64) × On x r ⌝ }
+    ensures { λ r. ⌜ HighestOn x r ⌝ }
 {
     63 - u64::leading_zeros(x) as usize
 }
@@ -192,6 +192,22 @@ pub fn holds(lo: u64, hi: u64, w: usize) -> bool
     ensures { λ r. ⌜ (r ≡ true) ↔ Has lo hi w ⌝ }
 {
     on(half(lo, hi, w), w % 64)
+}
+
+// The first word of a set of two with w too, without a branch.
+pub fn low_with(lo: u64, w: usize) -> u64
+    requires { ⌜ w < 128 ⌝ }
+    ensures { λ r. ⌜ ((j : ℕ) → On r j ↔ (On lo j ⊎ ((w < 64) × (j ≡ w)))) ⌝ }
+{
+    lo | (((1 - w / 64) as u64) << (w % 64))
+}
+
+// The second word of a set of two with w too, without a branch.
+pub fn high_with(hi: u64, w: usize) -> u64
+    requires { ⌜ w < 128 ⌝ }
+    ensures { λ r. ⌜ ((j : ℕ) → On r j ↔ (On hi j ⊎ (64 + j ≡ w))) ⌝ }
+{
+    hi | (((w / 64) as u64) << (w % 64))
 }
 
 // Puts w into set v of a table of sets of two words.

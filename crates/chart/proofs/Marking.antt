@@ -12,52 +12,20 @@ use lib.ListN.{length, getD, set, replicate, length-set, length-replicate, List�
 use lib.Seq.{ext-getD, getD-set-same, getD-set-other}
 use Rattle.theory.specs.Paths.{Edges, Star, here, step, Avoid}
 use Rattle.theory.proofs.Paths.{star-map}
-use Rattle.bits.specs.Words.{Has, Inserted}
-use Rattle.bits.proofs.Sets.{none}
+use Rattle.bits.specs.Words.{Has}
+use Rattle.bits.specs.Tables.{Table, Gains, When}
+use Rattle.bits.proofs.Tables.{blank, gains-none, gained, table-as, table-gains}
 use Rattle.chart.specs.Bodies.{verticesOf, countOf, fromOf, toOf, WellFormed}
 use Rattle.chart.specs.Reached.{Kept, FromMarked, Reached}
 use Rattle.chart.specs.Sets.{Leads, Closed}
-use Rattle.chart.specs.Tabled.{Tabled, InsertedIf, Marks}
+use Rattle.chart.specs.Marks.{Marks}
 
--- a list of zeros
-pub blank : (n w : ℕ) → getD (replicate {A = ℕ} n 0) w 0 ≡ 0
-blank zero w = refl
-blank (suc n) zero = refl
-blank (suc n) (suc w) = blank n w
+-- the table of no relation, and of one with a pair more
+pub table-none : {E : Edges} (n : ℕ) → ((x y : ℕ) → ¬ E x y) → Table n E (replicate (2 * n) 0)
+table-none n f = gained n (2 * n) refl (gains-none f)
 
--- an insertion that is made, and one that is not
-pub inserted-yes : {A : Type 0} {a r : List ℕ} {v w : ℕ} → A → Inserted a v w r → InsertedIf A a v w r
-inserted-yes i I = record {
-  long = I .long;
-  exactly = λ x y l m. (
-    λ h. ⊎-elim (λ e. inl e) (λ e. inr (i, e .0, e .1)) (I .exactly x y l m .0 h),
-    λ h. I .exactly x y l m .1 (⊎-elim (λ e. inl e) (λ e. inr (e .1, e .2)) h),
-  );
-}
-
-pub inserted-no : {A : Type 0} (a : List ℕ) (v w : ℕ) → ¬ A → InsertedIf A a v w a
-inserted-no a v w n = record { long = refl; exactly = λ x y l m. (λ h. inl h, λ h. ⊎-elim (λ e. e) (λ e. absurd (n (e .0))) h) }
-
--- the table of no relation, of one with a pair more, and of the same one
-pub tabled-none : {E : Edges} (n : ℕ) → ((x y : ℕ) → ¬ E x y) → Tabled n E (replicate (2 * n) 0)
-tabled-none n f = record {
-  long = length-replicate {A = ℕ} (2 * n) 0;
-  exactly = λ x y l m. (λ h. absurd (none y (rw (blank (2 * n) (2 * x), blank (2 * n) (2 * x + 1)) at h)), λ e. absurd (f x y e));
-}
-
-pub tabled-more : {A : Type 0} {E F : Edges} {n v w : ℕ} {a r : List ℕ} → InsertedIf A a v w r → ((x y : ℕ) → F x y ↔ (E x y ⊎ (A × (x ≡ v) × (y ≡ w)))) → Tabled n E a → Tabled n F r
-tabled-more I f T = record {
-  long = I .long ∙ T .long;
-  exactly = λ x y l m.
-      let i = I .exactly x y (omega (arith, T .long)) m in
-      let t = T .exactly x y l m in (
-        λ h. f x y .1 (⊎-elim (λ e. inl (t .0 e)) (λ e. inr e) (i .0 h)),
-        λ e. i .1 (⊎-elim (λ h. inl (t .1 h)) (λ h. inr h) (f x y .0 e)),
-      );
-}
-
-pub tabled-as : {E F : Edges} {n : ℕ} {a : List ℕ} → ((x y : ℕ) → x < n → y < 128 → E x y ↔ F x y) → Tabled n E a → Tabled n F a
-tabled-as f T = record { long = T .long; exactly = λ x y l m. (λ h. f x y l m .0 (T .exactly x y l m .0 h), λ e. T .exactly x y l m .1 (f x y l m .1 e)) }
+pub table-more : {A : Type 0} {E F : Edges} {n v w : ℕ} {a r : List ℕ} → Gains (When A v w) a r → ((x y : ℕ) → F x y ↔ (E x y ⊎ (A × (x ≡ v) × (y ≡ w)))) → Table n E a → Table n F r
+table-more G f T = table-as (λ x y l m. (f x y .1, f x y .0)) (table-gains T G)
 
 -- a kept transition before transition i
 abbrev pub KeptBelow : List ℕ → List ℕ → ℕ → Edges
@@ -133,7 +101,7 @@ marked-low m n w h = by-cases (decLt w 128) (λ l. l) (λ l. absurd (omega (arit
 
 -- the search along the table, from the set, as marks
 pub closed-reached : {body keep marks table from to r : List ℕ} {stop : ℕ} → WellFormed body → length marks ≡ 128
-    → Tabled 128 (Kept body keep) table → Tabled 1 (λ (x y : ℕ). getD marks y 0 ≡ 1) from
+    → Table 128 (Kept body keep) table → Table 1 (λ (x y : ℕ). getD marks y 0 ≡ 1) from
     → Closed table stop (getD from 0 0) (getD from 1 0) to → Marks (getD to 0 0) (getD to 1 0) 128 r → Reached body keep stop marks r
 closed-reached {body} {keep} {marks} {table} {from} {to} {r} {stop} W n T F C M = record {
   long = M .long;

@@ -1,16 +1,16 @@
 -- The froms of a well-formed body do not fall, so a number parts its transitions.
-use mathlib.Core.Path.{_≡_, sym, _∙_, subst}
+use mathlib.Core.Path.{_≡_, refl, sym, _∙_, subst}
 use mathlib.Core.Logic.{⊎-elim, by-cases}
 use mathlib.Core.List.{List}
-use Prim.Native.Nat.{ℕ, _+_, _-_, _*_, _≤_, _<_}
+use Prim.Native.Nat.{ℕ, zero, suc, _+_, _-_, _*_, _≤_, _<_}
 use native.Mathlib.Nat.{eq-or-lt-of-le, le-refl}
-use native.Mathlib.Decide.{decLe}
+use native.Mathlib.Decide.{decLe, decLt}
 use native.Mathlib.Omega.{arith}
-use lib.ListN.{length, getD, set, length-set}
+use lib.ListN.{length, getD, set, replicate, length-set, length-replicate}
 use lib.Seq.{getD-set-same, getD-set-other}
 use borrow.Author.Count.{below-more}
 use Rattle.bits.specs.Bits.{Bytes}
-use Rattle.chart.specs.Bodies.{countOf, fromOf, keyAt, WellFormed}
+use Rattle.chart.specs.Bodies.{verticesOf, countOf, fromOf, keyAt, WellFormed}
 use Rattle.chart.specs.Leaving.{Split, Rows}
 
 -- of bytes, a lower key has no higher from
@@ -80,12 +80,21 @@ module _ {b : List ℕ} {n v lo hi : ℕ} (L : Split b n v lo) (H : Split b n (v
     by-cases (decLe hi k) (λ g. absurd (at-high k g h e)) (λ g. omega arith),
   )
 
--- what the loop of `rows` keeps: the entries below v are there, and no transition passed leaves v or above
+-- what the loop of `rows` keeps: the entries below v are there, no transition passed leaves v or above, and the others are n
 pub record RowsBelow (b : List ℕ) (n : ℕ) (r : List ℕ) (at v : ℕ) : Type 0 where
   pub long : length r ≡ 129
   pub within : at ≤ n
   pub passed : (i : ℕ) → i < at → fromOf b i < v
   pub split : (k : ℕ) → k < v → Split b n k (getD r k 0)
+  pub later : (k : ℕ) → v ≤ k → k < 129 → getD r k 0 ≡ n
+
+filled : (m n k : ℕ) → k < m → getD (replicate {A = ℕ} m n) k 0 ≡ n
+filled zero n k h = absurd (omega (arith, h))
+filled (suc m) n zero h = refl
+filled (suc m) n (suc k) h = filled m n k (omega (arith, h))
+
+pub rows-none : (b : List ℕ) (n : ℕ) → RowsBelow b n (replicate 129 n) 0 0
+rows-none b n = record { long = length-replicate {A = ℕ} 129 n; within = omega arith; passed = λ i h. absurd (omega arith); split = λ k h. absurd (omega arith); later = λ k l h. filled 129 n k h }
 
 pub rows-more : {b : List ℕ} {n at at′ v : ℕ} {r : List ℕ} → RowsBelow b n r at v → v < 129 → Split b n v at′ → RowsBelow b n (set r v at′) at′ (v + 1)
 rows-more {b} {n} {at} {at′} {v} {r} R h S = record {
@@ -95,13 +104,15 @@ rows-more {b} {n} {at} {at′} {v} {r} R h S = record {
   split = below-more (λ (k : ℕ). Split b n k (getD (set r v at′) k 0)) v
       (λ k l. subst (Split b n k) (sym (getD-set-other r v k at′ 0 (λ e. omega arith))) (R .split k l))
       (subst (Split b n v) (sym (getD-set-same r v at′ 0 (omega (arith, R .long)))) S);
+  later = λ k l m. getD-set-other r v k at′ 0 (λ e. omega arith) ∙ R .later k (omega arith) m;
 }
 
-pub rows-all : {b r : List ℕ} {n at v : ℕ} → n ≡ countOf b → RowsBelow b n r at v → 129 ≤ v → Rows b r
-rows-all {b} {r} e R h = record {
-  long = R .long;
-  split = λ k l. subst (λ (m : ℕ). Split b m k (getD r k 0)) e (R .split k (omega arith));
-}
+-- no vertex from V on has transitions
+pub rows-all : {b r : List ℕ} {n at v : ℕ} → WellFormed b → n ≡ countOf b → RowsBelow b n r at v → verticesOf b ≤ v → Rows b r
+rows-all {b} {r} {n} {at} {v} W e R h = record { long = R .long; split = λ k l. subst (λ (m : ℕ). Split b m k (getD r k 0)) e (by-cases (decLt k v) (R .split k) (λ g. past-last k l (omega arith))) }
+  where
+    past-last : (k : ℕ) → k ≤ 128 → v ≤ k → Split b n k (getD r k 0)
+    past-last k l g = rw (R .later k g (omega arith)) (record { within = omega arith; below = λ i m. omega (arith, W .each i (omega arith) .from-high); above = λ i m j. absurd (omega arith) })
 
 -- a vertex has an entry, and a next one
 module _ {b r : List ℕ} (R : Rows b r) (u : ℕ) (l : u < 128) where

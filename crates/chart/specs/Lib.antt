@@ -3,7 +3,7 @@ pub mod Bodies
 pub mod Checks
 pub mod Leaving
 pub mod Reached
-pub mod Tabled
+pub mod Marks
 pub mod Words
 pub mod Steps
 pub mod Sets

@@ -8,6 +8,7 @@ use lib.ListN.{length, getD}
 use Rattle.theory.specs.Paths.{Edges, Star, Plus, Avoid}
 use Rattle.bits.specs.Words.{On, Has, HasRow}
 use Rattle.chart.specs.declared.sets.Search.{Search}
+use Rattle.chart.specs.declared.sets.Move.{Move}
 
 -- y is in set x of the table
 pub record Leads (a : List ℕ) (x y : ℕ) : Type 0 where
@@ -24,13 +25,25 @@ pub record Closed (a : List ℕ) (stop lo hi : ℕ) (r : List ℕ) : Type 0 wher
   pub long : length r ≡ 2
   pub exactly : (w : ℕ) → w < 128 → Has (getD r 0 0) (getD r 1 0) w ↔ FromSet (Avoid stop (Leads a)) lo hi w
 
--- for each x of the set (k₀, k₁), set x of after has what x reaches by one step or more
-pub record Known (a after : List ℕ) (k₀ k₁ : ℕ) : Type 0 where
-  pub exactly : (x y : ℕ) → Has k₀ k₁ x → x < 128 → y < 128 → HasRow after x y ↔ Plus (Leads a) x y
+-- for each x from `from` up to `to`, set x of after has what x reaches by one step or more
+pub record Known (a after : List ℕ) (from to : ℕ) : Type 0 where
+  pub exactly : (x y : ℕ) → from ≤ x → x < to → x < 128 → y < 128 → HasRow after x y ↔ Plus (Leads a) x y
 
 -- the vertex of turn i, from above or from below
 abbrev pub turnOf : ℕ → ℕ → Bool → ℕ
 turnOf i n down = cond down (n - 1 - i) i
+
+-- the vertices of the first i turns, from the first number of r up to the second
+pub record Turns (i n : ℕ) (down : Bool) (r : List ℕ) : Type 0 where
+  pub long : length r ≡ 2
+  pub begin : getD r 0 0 ≡ cond down (n - i) 0
+  pub end : getD r 1 0 ≡ cond down n i
+
+-- r is the first turn whose vertex reaches itself, or n
+pub record FirstTurn (a : List ℕ) (n : ℕ) (down : Bool) (r : ℕ) : Type 0 where
+  pub within : r ≤ n
+  pub cycles : r < n → Plus (Leads a) (turnOf r n down) (turnOf r n down)
+  pub below : (j : ℕ) → j < r → ¬ Plus (Leads a) (turnOf j n down) (turnOf j n down)
 
 -- r is the lowest of the first n vertices that reaches itself, or n
 pub record FirstCycle (a : List ℕ) (n r : ℕ) : Type 0 where
@@ -58,9 +71,12 @@ pub record Words (seen0 seen1 past0 past1 : ℕ) (r : Search) : Type 0 where
 abbrev pub Finished : Search → Type 0
 Finished s = ((j : ℕ) → On (s .seen0) j → On (s .past0) j) × ((j : ℕ) → On (s .seen1) j → On (s .past1) j)
 
--- all that w reaches is known, and stop is not among it
-abbrev pub Jumps : List ℕ → ℕ → ℕ → ℕ → ℕ → Type 0
-Jumps after k₀ k₁ stop w = Has k₀ k₁ w × (¬ HasRow after w stop)
+-- w is not stop, all that w reaches is known, and stop is not among it
+pub record Jumps (after : List ℕ) (from to stop w : ℕ) : Type 0 where
+  pub above : from ≤ w
+  pub below : w < to
+  pub apart : w ≢ stop
+  pub never : ¬ HasRow after w stop
 
 -- the words of r are those of x and of y
 abbrev pub Either : ℕ → ℕ → ℕ → Type 0
@@ -93,13 +109,10 @@ pub record Visited (a : List ℕ) (stop w : ℕ) (s r : Search) : Type 0 where
   pub fits1 : r .past1 < 2 ^ 64
 
 -- some vertex that was seen and not past is past now
-pub record Stepped (a : List ℕ) (stop : ℕ) (s r : Search) : Type 0 where
-  pub at : ℕ
-  pub within : at < 128
-  pub was-seen : Has (s .seen0) (s .seen1) at
-  pub grows : (y : ℕ) → Has (s .seen0) (s .seen1) y → Has (r .seen0) (r .seen1) y
-  pub sound : (y : ℕ) → y < 128 → Has (r .seen0) (r .seen1) y → Has (s .seen0) (s .seen1) y ⊎ Star (Avoid stop (Leads a)) at y
-  pub passed : (x y : ℕ) → x < 128 → y < 128 → Has (r .past0) (r .past1) x → Avoid stop (Leads a) x y → Has (s .past0) (s .past1) x ⊎ Has (r .seen0) (r .seen1) y
-  pub more : s .past0 + s .past1 < r .past0 + r .past1
-  pub fits0 : r .past0 < 2 ^ 64
-  pub fits1 : r .past1 < 2 ^ 64
+pub record Taken (s : Search) (t : Move) : Type 0 where
+  pub within : t .at < 128
+  pub was-seen : Has (s .seen0) (s .seen1) (t .at)
+  pub is0 : t .seen0 ≡ s .seen0
+  pub is1 : t .seen1 ≡ s .seen1
+  pub past : (x : ℕ) → x < 128 → Has (t .past0) (t .past1) x → Has (s .past0) (s .past1) x ⊎ (x ≡ t .at)
+  pub more : s .past0 + s .past1 < t .past0 + t .past1

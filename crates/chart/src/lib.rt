@@ -9,7 +9,8 @@ ghost use Rattle.chart.specs.Checks.{headerOk, checkOf};
 ghost use Rattle.chart.specs.Words.{wordOf, turnedOf, wordOk};
 ghost use Rattle.chart.specs.Leaving.{leavingAt, leavingOf, Split, Rows};
 ghost use Rattle.chart.specs.Reached.{Kept, Reached};
-ghost use Rattle.chart.specs.Tabled.{Tabled, InsertedIf, Marks};
+ghost use Rattle.chart.specs.Marks.{Marks};
+ghost use Rattle.bits.specs.Tables.{Table, Gains, When};
 use bits::byte;
 use bits::holds;
 use bits::insert;
@@ -173,10 +174,11 @@ pub fn rows(body: &[u8]) -> [usize; 129]
     ensures { λ r. ⌜ Rows (now (body .entry)) r ⌝ }
 {
     let n = count(body);
-    let mut rows = [0usize; 129];
+    let vertices = byte(body, 0);
+    let mut rows = [n; 129];
     let mut at: usize = 0;
     let mut v: usize = 0;
-    while v < 129 {
+    while v < vertices {
         at = past(body, n, v, at);
         rows[v] = at;
         v += 1;
@@ -187,7 +189,7 @@ pub fn rows(body: &[u8]) -> [usize; 129]
 // Where the flag is 1, puts w into set v of a table.
 fn insert_flagged(flag: usize, table: &mut [u64], v: usize, w: usize)
     requires { ⌜ (2 * v + 2 ≤ length (now table)) × (w < 128) ⌝ }
-    ensures { λ _. ⌜ InsertedIf (flag ≡ 1) (now (table .entry)) v w (now (table .exit)) ⌝ }
+    ensures { λ _. ⌜ Gains (When (flag ≡ 1) v w) (now (table .entry)) (now (table .exit)) ⌝ }
 {
     if flag == 1 {
         insert(table, v, w);
@@ -197,7 +199,7 @@ fn insert_flagged(flag: usize, table: &mut [u64], v: usize, w: usize)
 // The transitions whose `keep` byte is 1, as a table: set u has what they enter from u.
 fn kept_table(body: &[u8], keep: &[u8]) -> [u64; 256]
     requires { ⌜ (checkOf (now body) ≡ Stage.Passed) × (countOf (now body) ≤ length (now keep)) ⌝ }
-    ensures { λ r. ⌜ Tabled 128 (Kept (now (body .entry)) (now (keep .entry))) r ⌝ }
+    ensures { λ r. ⌜ Table 128 (Kept (now (body .entry)) (now (keep .entry))) r ⌝ }
 {
     let n = count(body);
     let mut table = [0u64; 256];
@@ -213,7 +215,7 @@ fn kept_table(body: &[u8], keep: &[u8]) -> [u64; 256]
 // The marked vertices as a set: a table of one.
 fn marked_set(marks: &[u8; 128]) -> [u64; 2]
     requires { ⌜ length (now marks) ≡ 128 ⌝ }
-    ensures { λ r. ⌜ Tabled 1 (λ (x y : ℕ). getD (now (marks .entry)) y 0 ≡ 1) r ⌝ }
+    ensures { λ r. ⌜ Table 1 (λ (x y : ℕ). getD (now (marks .entry)) y 0 ≡ 1) r ⌝ }
 {
     let mut set = [0u64; 2];
     let mut w: usize = 0;
@@ -244,6 +246,6 @@ pub fn reach(body: &[u8], keep: &[u8], stop: usize, marks: [u8; 128]) -> [u8; 12
 {
     let table = kept_table(body, keep);
     let from = marked_set(&marks);
-    let reached = closure(&table, &table, 0, 0, stop, from[0], from[1]);
+    let reached = closure(&table, stop, from[0], from[1]);
     set_marks(reached[0], reached[1])
 }

@@ -8,12 +8,13 @@ use Rattle.theory.specs.Witnesses.{Connected}
 use Rattle.theory.specs.Least.{Least}
 use Rattle.theory.specs.Checks.{Unreached, OnBranchCycle, all-pass, fails-31, fails-32, fails-loop}
 use Rattle.theory.proofs.Paths.{plus-below}
+use Rattle.report.specs.declared.Place.{Place}
 use Rattle.report.specs.declared.Place.the-variants as place
+use Rattle.report.specs.declared.Stage.the-variants as stage
 use Rattle.bits.specs.Bits.{Bytes}
 use Rattle.chart.specs.Bodies.{verticesOf, startOf, countOf, WellFormed}
 use Rattle.chart.specs.Steps.{StepsOf}
 use Rattle.chart.proofs.Relations.{steps-formed}
-use Rattle.witness.specs.declared.Labelled.{Labelled}
 use Rattle.witness.specs.declared.Labelled.the-variants.{Passed, Refused}
 use Rattle.witness.specs.Labellings.{loopsOf, labelledOf}
 use Rattle.witness.specs.Lowest.{Lowest}
@@ -37,6 +38,9 @@ module _ (b labels : List ℕ) (W : WellFormed b) (B : Bytes labels) (long : len
     acyclic : verticesOf b ≤ q → (w : ℕ) → ¬ OnBranchCycle (StepsOf b labels) w
     acyclic h w c = let l : w < verticesOf b = plus-below (λ u x. steps-formed b labels W .to-vertex u 0 x) c in C .below w (omega arith) c
 
-    pub answer-loops : verticesOf b ≤ q → (r : Labelled) → LoopsSaid (StepsOf b labels) (loopsOf b labels) r → r ≡ labelledOf b labels
-    answer-loops h (Passed n) (e, a) = ap Passed e ∙ sym (labelled-checked b labels W B long (all-pass reached (record { c32 = acyclic h; loops = a })))
-    answer-loops h (Refused x) (v, l, o, e, (out, f, i)) = sym (labelled-checked b labels W B long (fails-loop reached (acyclic h) o e f) ∙ i (loopsOf b labels))
+    module _ (none : verticesOf b ≤ q) where
+      pub answer-passed : LoopsSaid (StepsOf b labels) stage.Passed → {n : ℕ} → n ≡ loopsOf b labels → Passed n ≡ labelledOf b labels
+      answer-passed a e = ap Passed e ∙ sym (labelled-checked b labels W B long (all-pass reached (record { c32 = acyclic none; loops = a })))
+
+      pub answer-refused : {x : Place} → LoopsSaid (StepsOf b labels) (stage.Refused x) → Refused x ≡ labelledOf b labels
+      answer-refused (v, l, o, e, (out, f, i)) = sym (labelled-checked b labels W B long (fails-loop reached (acyclic none) o e f) ∙ i (loopsOf b labels))

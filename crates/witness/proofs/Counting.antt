@@ -1,21 +1,19 @@
 -- How many pairs pass a test, along a row and over the rows; and the length of a list with every loop once.
-use mathlib.Core.Path.{_≡_, refl, sym, _∙_, ap}
+use mathlib.Core.Path.{_≡_, refl, sym, _∙_, ap, ap₂}
 use mathlib.Core.Logic.{_⊎_, inl, inr, ⊎-elim}
 use mathlib.Core.Bool.{Bool, true, false, cond}
 use mathlib.Core.List.{List, [], _∷_, List·Memᴰ, List·Memᴰ·head, List·Memᴰ·tail, List·Memᴰ·not-nil, List·Memᴰ·cases-cons, Memᴰ·cast}
-use Prim.Native.Nat.{ℕ, zero, suc, _+_, _-_, _≤_, _<_}
-use native.Mathlib.Nat.{le-refl}
+use Prim.Native.Nat.{ℕ, zero, suc, _+_, _-_, _/_, _%_, _^_, _≤_, _<_}
+use native.Mathlib.Nat.{le-refl, mod-lt}
 use native.Mathlib.Omega.{arith}
+use lib.Dec.{eqb}
 use lib.ListN.{length, length-append}
+use Rattle.bits.specs.Counts.{bitsBelow}
 use Rattle.theory.specs.Charts.{Steps}
 use Rattle.theory.specs.Orders.{Distinct, none, one, AllLoops}
 use Rattle.theory.specs.Tests.{rowPairs, pairsFrom}
 
 module _ (p : ℕ → ℕ → Bool) where
-  -- of the columns below n, those from v on that pass in the row u
-  abbrev pub rowFrom : ℕ → ℕ → ℕ → ℕ
-  rowFrom n u v = length (rowPairs p u v (n - v))
-
   one-more : (u v k : ℕ) → p u v ≡ true → length (rowPairs p u v (suc k)) ≡ suc (length (rowPairs p u (suc v) k))
   unfolding rowPairs
   one-more u v k e = rw e
@@ -27,33 +25,34 @@ module _ (p : ℕ → ℕ → Bool) where
   remains : (n v : ℕ) → v < n → n - v ≡ suc (n - suc v)
   remains n v h = omega arith
 
-  -- the column v passes
-  pub row-one : (n u v : ℕ) → v < n → p u v ≡ true → rowFrom n u v ≡ suc (rowFrom n u (suc v))
-  row-one n u v h e = rw (remains n v h) (one-more u v (n - suc v) e)
-
-  -- the d columns from v on do not
-  skips : (n u d v : ℕ) → v + d ≤ n → ((k : ℕ) → v ≤ k → k < v + d → p u k ≡ false) → rowFrom n u v ≡ rowFrom n u (v + d)
-  skips n u zero v h f = let e : v + 0 ≡ v = omega arith in rw e
-  skips n u (suc d) v h f =
-      let e : suc v + d ≡ v + suc d = omega arith in
-      let i : rowFrom n u (suc v) ≡ rowFrom n u (suc v + d) = skips n u d (suc v) (omega arith) (λ k a c. f k (omega arith) (omega arith)) in
-      ap (λ (k : ℕ). length (rowPairs p u v k)) (remains n v (omega arith)) ∙ no-more u v (n - suc v) (f v (le-refl v) (omega arith)) ∙ i ∙ ap (rowFrom n u) e
-
-  pub row-skip : (n u v w : ℕ) → v ≤ w → w ≤ n → ((k : ℕ) → v ≤ k → k < w → p u k ≡ false) → rowFrom n u v ≡ rowFrom n u w
-  row-skip n u v w h g f = let e : v + (w - v) ≡ w = omega arith in skips n u (w - v) v (omega arith) (λ k a c. f k a (omega arith)) ∙ ap (rowFrom n u) e
-
-  pub row-end : (n u : ℕ) → rowFrom n u n ≡ 0
+  -- the first m columns, and the n after them
+  pub row-split : (u v m n : ℕ) → length (rowPairs p u v (m + n)) ≡ length (rowPairs p u v m) + length (rowPairs p u (v + m) n)
   unfolding rowPairs
-  row-end n u = let e : n - n ≡ 0 = omega arith in rw e
-
-  pub row-high : (u v n : ℕ) → length (rowPairs p u v n) ≤ n
-  unfolding rowPairs
-  row-high u v zero = omega arith
-  row-high u v (suc n) = go (p u v) (row-high u (suc v) n)
+  row-split u v zero n = let e : v + 0 ≡ v = omega arith in let f : 0 + n ≡ n = omega arith in rw (e, f) (omega arith)
+  row-split u v (suc m) n =
+      let e : suc m + n ≡ suc (m + n) = omega arith in
+      let f : v + suc m ≡ suc v + m = omega arith in
+      rw (e, f) (go (p u v) refl (row-split u (suc v) m n))
     where
-      go : (c : Bool) → length (rowPairs p u (suc v) n) ≤ n → length (cond c ((u, v) ∷ rowPairs p u (suc v) n) (rowPairs p u (suc v) n)) ≤ suc n
-      go true h = omega arith
-      go false h = omega arith
+      go : (c : Bool) → p u v ≡ c → length (rowPairs p u (suc v) (m + n)) ≡ length (rowPairs p u (suc v) m) + length (rowPairs p u (suc v + m) n) → length (rowPairs p u v (suc (m + n))) ≡ length (rowPairs p u v (suc m)) + length (rowPairs p u (suc v + m) n)
+      go true e i = let a = one-more u v (m + n) e in let b = one-more u v m e in omega (arith, a, b, i)
+      go false e i = let a = no-more u v (m + n) e in let b = no-more u v m e in omega (arith, a, b, i)
+
+  -- columns that pass where a bit of x is set
+  pub row-bits : (u x n v : ℕ) → ((i : ℕ) → i < n → p u (v + i) ≡ eqb (x / 2 ^ i % 2) 1) → length (rowPairs p u v n) ≡ bitsBelow x n
+  unfolding rowPairs bitsBelow
+  row-bits u x zero v f = refl
+  row-bits u x (suc n) v f =
+      let e : n + 1 ≡ suc n = omega arith in
+      let s = row-split u v n 1 in
+      let r = row-bits u x n v (λ i h. f i (omega arith)) in
+      let l = last (v + n) (x / 2 ^ n % 2) (mod-lt (x / 2 ^ n) (omega arith)) (f n (omega arith)) in
+      ap (λ (k : ℕ). length (rowPairs p u v k)) (sym e) ∙ s ∙ ap₂ (λ (a b : ℕ). a + b) r l
+    where
+      last : (w d : ℕ) → d < 2 → p u w ≡ eqb d 1 → length (rowPairs p u w 1) ≡ d
+      last w zero h e = no-more u w 0 e
+      last w (suc zero) h e = one-more u w 0 e
+      last w (suc (suc d)) h e = absurd (omega arith)
 
   -- of the rows below n, those from u on
   abbrev pub rowsFrom : ℕ → ℕ → ℕ → ℕ

@@ -1,47 +1,29 @@
 -- What the passes work out is what the checks go by.
-use mathlib.Core.Path.{_≡_, refl, subst}
-use mathlib.Core.Logic.{_⊎_, inl, inr, ⊎-elim, by-cases, _↔_}
+use mathlib.Core.Path.{_≡_, subst}
+use mathlib.Core.Logic.{_⊎_, inl, inr, by-cases, _↔_}
 use mathlib.Core.List.{List}
 use Prim.Native.Nat.{ℕ, _+_, _*_, _/_, _%_, _<_}
 use native.Mathlib.Nat.{le-refl}
 use native.Mathlib.Decide.{ℕ-discrete}
 use native.Mathlib.Omega.{arith}
-use lib.ListN.{getD, replicate}
+use lib.ListN.{getD}
 use Rattle.bits.specs.Bits.{Bytes}
 use Rattle.bits.specs.Words.{Has, HasRow}
-use Rattle.theory.specs.Charts.{Any, Branch, Loop}
+use Rattle.theory.specs.Charts.{Loop}
 use Rattle.chart.specs.Bodies.{WellFormed}
 use Rattle.chart.specs.Steps.{StepsOf}
-use Rattle.witness.specs.Given.{Origin, Entry, Enters, EntersHigh, Tables}
+use Rattle.witness.specs.Given.{Enters, EntersHigh}
 use Rattle.witness.specs.Lowest.{NextLevel}
-use Rattle.witness.specs.Tables.{Table, Gains}
+use Rattle.bits.specs.Tables.{Table, Gains}
 use Rattle.witness.proofs.Labellings.{loop-below}
 use Rattle.witness.proofs.Lowest.{IsLevel, level-as}
 use Rattle.witness.proofs.Seen.{Levels, Targets}
-use Rattle.witness.proofs.Sets.{gained, table-as, table-gains}
+use Rattle.bits.proofs.Tables.{table-as, table-gains}
 
--- what the branches and the entries lead to is what all transitions lead to
-pub next-of : {b labels branches entries next : List ℕ} → Gains (Branch (StepsOf b labels)) (replicate 256 0) branches → Gains (Entry (StepsOf b labels)) (replicate 256 0) entries → Table 128 (λ (x y : ℕ). HasRow branches x y ⊎ HasRow entries x y) next → Table 128 (Any (StepsOf b labels)) next
-next-of {b} {labels} {branches} {entries} G H = table-as (λ x y h l. (
-  ⊎-elim (λ g. (0, B .exactly x y h l .0 g)) (λ g. let (k, i, s) = E .exactly x y h l .0 g in (k, s)),
-  λ (k, s). by-cases (ℕ-discrete k 0) (λ e. inl (B .exactly x y h l .1 (subst (λ (j : ℕ). StepsOf b labels x j y) e s))) (λ e. inr (E .exactly x y h l .1 (k, omega arith, s))),
-))
+-- with what the later levels have, a level has the vertices with an entry of it or of a higher one
+pub levels-of : {b labels entered high : List ℕ} → WellFormed b → Bytes labels → Table 256 (Enters (StepsOf b labels)) entered → Gains (λ (x y : ℕ). (m : ℕ) × (x < m) × (m < 256) × HasRow entered m y) entered high → Table 256 (EntersHigh (StepsOf b labels)) high
+levels-of {b} {labels} {entered = entered} W B E I = table-as (λ l u h g. (to l u g, from l u g)) (table-gains E I)
   where
-    B : Table 128 (Branch (StepsOf b labels)) branches
-    B = gained 128 256 refl G
-
-    E : Table 128 (Entry (StepsOf b labels)) entries
-    E = gained 128 256 refl H
-
--- the tables of the branches and of the levels
-pub tables-of : {b labels branches origins entries entered high : List ℕ} → WellFormed b → Bytes labels → Gains (Branch (StepsOf b labels)) (replicate 256 0) branches → Gains (Origin (StepsOf b labels)) (replicate 256 0) origins → Gains (Entry (StepsOf b labels)) (replicate 256 0) entries
-    → Gains (Enters (StepsOf b labels)) (replicate 512 0) entered
-    → Gains (λ (x y : ℕ). (m : ℕ) × (x < m) × (m < 256) × HasRow entered m y) entered high → Tables b labels branches origins entries high
-tables-of {b} {labels} {entered = entered} W B G K J H I = record { of-branches = gained 128 256 refl G; of-origins = gained 128 256 refl K; of-entries = gained 128 256 refl J; of-levels = table-as (λ l u h g. (to l u g, from l u g)) (table-gains E I) }
-  where
-    E : Table 256 (Enters (StepsOf b labels)) entered
-    E = gained 256 512 refl H
-
     to : (l u : ℕ) → u < 128 → Enters (StepsOf b labels) l u ⊎ ((m : ℕ) × (l < m) × (m < 256) × HasRow entered m u) → EntersHigh (StepsOf b labels) l u
     to l u g (inl o) = (l, o, le-refl l)
     to l u g (inr (m, h, i, k)) = (m, E .exactly m u i g .0 k, omega arith)
@@ -50,10 +32,6 @@ tables-of {b} {labels} {entered = entered} W B G K J H I = record { of-branches 
     from l u g (m, o, h) =
         let i = loop-below b labels W B o .1 in
         by-cases (ℕ-discrete m l) (λ e. inl (subst (Loop (StepsOf b labels) u) e o)) (λ e. inr (m, omega arith, i, E .exactly m u i g .1 o))
-
--- a vertex with no entry has no loop
-pub no-loop : {b labels branches origins entries high : List ℕ} {v : ℕ} → Tables b labels branches origins entries high → v < 128 → ¬ HasRow high 1 v → (l : ℕ) → ¬ Loop (StepsOf b labels) v l
-no-loop T h n l o = n (T .of-levels .exactly 1 _ (omega arith) h .1 (l, o, o .0))
 
 -- of the tables of a vertex: the next level is that of a loop, and its set is what the entries lead to
 module _ {b labels : List ℕ} {v : ℕ} where

@@ -90,9 +90,6 @@ module _ (b labels : List ℕ) (W : WellFormed b) (B : Bytes labels) where
   labels-below : (u l w : ℕ) → StepsOf b labels u l w → l < 256
   labels-below = steps-listed b labels B .label-below
 
-  pub tests-loop : (v l : ℕ) → Decides (loopTest (stepTest b labels) (verticesOf b) 256 v l) (Loop (StepsOf b labels) v l)
-  tests-loop = decides-loop (tests-step b labels) (steps-formed b labels W) labels-below
-
   pub loop-below : {v l : ℕ} → Loop (StepsOf b labels) v l → (v < verticesOf b) × (l < 256)
   loop-below (h, w, s) = (steps-formed b labels W .from-vertex _ _ _ s .1, labels-below _ _ _ s)
 

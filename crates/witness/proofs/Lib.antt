@@ -3,8 +3,11 @@ pub mod Counting
 pub mod Labellings
 pub mod Sets
 pub mod Seen
+pub mod Sifting
 pub mod Lowest
 pub mod Given
+pub mod Collecting
+pub mod Sizes
 pub mod Reaching
 pub mod Loops
 pub mod Answers

@@ -1,195 +1,171 @@
--- The checks 33 to 35: of one loop, of the loops of a vertex, of all loops; and how many they are.
-use mathlib.Core.Path.{_≡_, refl, sym, ap, subst}
-use mathlib.Core.Logic.{_≢_, ⊎-elim, by-cases, _↔_}
-use mathlib.Core.Bool.{false}
+-- The checks 33 to 35: of one loop, of the loops of a vertex, of all loops.
+use mathlib.Core.Path.{_≡_, refl, sym, subst}
+use mathlib.Core.Logic.{_≢_, inl, inr, ⊎-elim, by-cases, _↔_}
 use mathlib.Core.List.{List}
-use Prim.Native.Nat.{ℕ, suc, _+_, _*_, _≤_, _<_}
-use native.Mathlib.Nat.{sub-zero}
-use native.Mathlib.Numerals.{add-one}
+use Prim.Native.Nat.{ℕ, _+_, _≤_, _<_}
 use native.Mathlib.Decide.{ℕ-discrete, decLt}
 use native.Mathlib.Omega.{arith}
-use lib.ListN.{length, getD}
+use lib.ListN.{getD}
 use Rattle.theory.specs.Paths.{Edges, Star, here, step, Plus, Avoid}
-use Rattle.theory.specs.Charts.{Loop}
+use Rattle.theory.specs.Charts.{Steps, Branch, Loop}
 use Rattle.theory.specs.LoopCharts.{InLoop}
 use Rattle.theory.specs.Checks.{LoopPasses, no-return, end-inside, not-lower, NotLower, fails-33, fails-34, fails-35}
-use Rattle.theory.specs.Tests.{pairsFrom, pairs}
-use Rattle.theory.specs.LabellingTests.{loopList}
-use Rattle.theory.proofs.Paths.{star-apart, plus-below}
-use Rattle.theory.proofs.Tests.{is-false}
+use Rattle.theory.proofs.Paths.{star-apart, star-cases, star-map, plus-star, plus-below}
 use Rattle.theory.proofs.Checks.{loop-to}
 use Rattle.theory.proofs.Rounds.{body-iff}
 use Rattle.report.specs.declared.Place.{Place}
 use Rattle.report.specs.declared.Place.the-variants.{LoopNoReturn, LoopEndInside, LoopNotLower}
+use Rattle.report.specs.declared.Stage.{Stage}
+use Rattle.report.specs.declared.Stage.the-variants.{Passed, Refused}
 use Rattle.bits.specs.Bits.{Bytes}
 use Rattle.bits.specs.Words.{Has, HasRow}
+use Rattle.bits.specs.Tables.{Members}
 use Rattle.chart.specs.Bodies.{verticesOf, WellFormed}
 use Rattle.chart.specs.Steps.{StepsOf}
 use Rattle.chart.proofs.Relations.{steps-formed}
-use Rattle.witness.specs.declared.Labelled.the-variants.{Passed, Refused}
-use Rattle.witness.specs.declared.loop_checks.Common.{Common}
-use Rattle.witness.specs.Labellings.{loopsOf}
-use Rattle.witness.specs.Given.{Tables, Shared}
-use Rattle.witness.specs.Loops.{AtOnce}
+use Rattle.witness.specs.Given.{Tables}
+use Rattle.witness.specs.Loops.{LoopSaid, Back, AllBack, Below, Whole}
 use Rattle.witness.specs.Lowest.{Lowest, NextLevel}
-use Rattle.witness.specs.Tables.{Members}
-use Rattle.witness.specs.Answers.{FailsAt, VertexSaid, LoopsSaid, loopAt, loopsAt}
-use Rattle.witness.proofs.Labellings.{tests-loop, loop-below}
+use Rattle.witness.specs.Answers.{FailsAt, VertexSaid, LoopsSaid}
+use Rattle.witness.proofs.Labellings.{loop-below}
 use Rattle.witness.proofs.Lowest.{lowest-as}
-use Rattle.witness.proofs.Counting.{rowFrom, row-one, row-skip, row-end, row-high, rowsFrom, rows-one, rows-end}
+use Rattle.witness.proofs.Reaching.{step-low}
 
--- ONE LOOP
-module _ {b labels branches origins entries high : List ℕ} (W : WellFormed b) (T : Tables b labels branches origins entries high) {v l : ℕ} (at : v < 128) (low : l < 256) {m : List ℕ} (M : Members (Plus (InLoop (StepsOf b labels) v l) v) m) where
-  pub loop-33 : ¬ Has (getD m 0 0) (getD m 1 0) v → FailsAt (StepsOf b labels) v l (LoopNoReturn v l)
-  loop-33 h = (no-return v l, fails-33 (λ p. h (M .exactly v at .1 p)), λ n. refl)
-
-  module _ (back : Has (getD m 0 0) (getD m 1 0) v) where
-    pub loop-34 : Has (getD m 0 0) (getD m 1 0) 0 → FailsAt (StepsOf b labels) v l (LoopEndInside v l)
-    loop-34 g = (end-inside v l, fails-34 (M .exactly v at .0 back) (M .exactly 0 (omega arith) .0 g), λ n. refl)
-
-    module _ (no-end : ¬ Has (getD m 0 0) (getD m 1 0) 0) {r : ℕ} (L : Lowest (λ (w : ℕ). (Has (getD m 0 0) (getD m 1 0) w × HasRow high l w) × (w ≢ v)) 128 r) where
-      found : Lowest (NotLower (StepsOf b labels) v l) 128 r
-      found = lowest-as (λ w h. (
-        λ ((c, d), a). (a, M .exactly w h .0 c, T .of-levels .exactly l w low h .0 d),
-        λ (a, c, d). ((M .exactly w h .1 c, T .of-levels .exactly l w low h .1 d), a),
-      )) L
-
-      pub loop-35 : r < 128 → FailsAt (StepsOf b labels) v l (LoopNotLower v l r)
-      loop-35 k = (
-        not-lower v l r,
-        fails-35 (M .exactly v at .0 back) (λ p. no-end (M .exactly 0 (omega arith) .1 p)) (record { holds = found .holds k; lowest = found .below }),
-        λ n. refl,
-      )
-
-      pub loop-passes : 128 ≤ r → LoopPasses (StepsOf b labels) v l
-      loop-passes k = record {
-        c33 = M .exactly v at .0 back;
-        c34 = λ p. no-end (M .exactly 0 (omega arith) .1 p);
-        c35 = λ w a p x o. by-cases (decLt x l) (λ q. q) (λ q.
-            let s = star-apart p a in
-            let i : w < verticesOf b = plus-below (loop-to (steps-formed b labels W) v l) s in
-            absurd (found .below w (omega (arith, W .header .vertices-high)) (a, s, (x, o, omega arith))));
-      }
-
--- BY WHAT THE LOOPS OF A VERTEX SHARE
 -- the way to v, up to the first time that it is there
 to-first : {E : Edges} {u v : ℕ} → Star E u v → Star (Avoid v E) u v
 to-first here = here
 to-first {E} {v = v} (step {u = u} e p) = elim (ℕ-discrete u v) [ yes z ↦ subst (λ (x : ℕ). Star (Avoid v E) x v) (sym z) here | no z ↦ step (z, e) (to-first p) ]
 
-module _ {b labels branches origins entries high : List ℕ} (W : WellFormed b) (T : Tables b labels branches origins entries high) {v l lo hi : ℕ} (low : l < 256) (some : 0 < l) {s : Common} (H : Shared (StepsOf b labels) v s) (S : (w : ℕ) → w < 128 → Has lo hi w ↔ StepsOf b labels v l w) where
-  pub passes-shared : AtOnce lo hi high v l s → LoopPasses (StepsOf b labels) v l
-  passes-shared A = record {
-    c33 = body-iff v .1 (A .at, S (A .at) (A .within) .0 (A .entered), to-first (H .back (A .at) (A .within) (A .returns)));
-    c34 = λ p. A .endless (H .whole (A .at) (A .returns) l 0 some (omega arith) p);
-    c35 = λ w a p x o. by-cases (decLt x l) (λ q. q) (λ q.
-        let r = star-apart p a in
-        let i : w < verticesOf b = plus-below (loop-to (steps-formed b labels W) v l) r in
-        let j : w < 128 = omega (arith, W .header .vertices-high) in
-        absurd (A .lower w j (H .whole (A .at) (A .returns) l w some j r) (T .of-levels .exactly l w low j .1 (x, o, omega arith)) a));
-  }
+module _ {b labels branches after entries low high : List ℕ} (W : WellFormed b) (T : Tables b labels branches after entries low high) {v : ℕ} (at : v < 128) where
+  -- 33: BY THE TARGETS OF A LOOP'S ENTRIES
+  -- w leads to v, or is it
+  back-iff : (w : ℕ) → w < verticesOf b → Back after v w ↔ Star (Branch (StepsOf b labels)) w v
+  back-iff w h = (
+    ⊎-elim (λ e. subst (λ (x : ℕ). Star (Branch (StepsOf b labels)) x v) (sym e) here) (λ g. plus-star (T .of-after .exactly w v h at .0 g)),
+    λ p. ⊎-elim inl (λ q. inr (T .of-after .exactly w v h at .1 q)) (star-cases p),
+  )
+
+  target-low : {l w : ℕ} → StepsOf b labels v l w → w < verticesOf b
+  target-low s = steps-formed b labels W .to-vertex _ _ _ s
+
+  comes : {l w : ℕ} → StepsOf b labels v l w → Back after v w → Plus (InLoop (StepsOf b labels) v l) v v
+  comes {l} {w} s k = body-iff v .1 (w, s, to-first (back-iff w (target-low s) .0 k))
+
+  comes-by : {l : ℕ} → Plus (InLoop (StepsOf b labels) v l) v v → (w : ℕ) × StepsOf b labels v l w × Back after v w
+  comes-by p = let (w, s, q) = body-iff v .0 p in (w, s, back-iff w (target-low s) .1 (star-map (λ x y e. e .1) q))
+
+  module _ {l : ℕ} (lo hi : ℕ) {r : ℕ} (S : (w : ℕ) → w < 128 → Has lo hi w ↔ StepsOf b labels v l w) (L : Lowest (λ (w : ℕ). Has lo hi w × Back after v w) 128 r) where
+    pub loop-33 : r ≡ 128 → FailsAt (StepsOf b labels) v l (LoopNoReturn v l)
+    loop-33 e = (no-return v l, fails-33 (λ p. let (w, s, k) = comes-by p in let h = step-low W s .1 in L .below w (omega arith) (S w h .1 s, k)), λ n. refl)
+
+    pub loop-back : r ≢ 128 → Plus (InLoop (StepsOf b labels) v l) v v
+    loop-back e = let h : r < 128 = omega (arith, L .within) in let (g, k) = L .holds h in comes (S r h .0 g) k
+
+  -- 34 AND 35: BY THE LOOP'S BODY
+  module _ {l : ℕ} (i : l < 256) {m : List ℕ} (M : Members (Plus (InLoop (StepsOf b labels) v l) v) m) (back : Plus (InLoop (StepsOf b labels) v l) v v) where
+    pub loop-34 : Has (getD m 0 0) (getD m 1 0) 0 → FailsAt (StepsOf b labels) v l (LoopEndInside v l)
+    loop-34 g = (end-inside v l, fails-34 back (M .exactly 0 (omega arith) .0 g), λ n. refl)
+
+    module _ (no-end : ¬ Has (getD m 0 0) (getD m 1 0) 0) {r : ℕ} (L : Lowest (λ (w : ℕ). (Has (getD m 0 0) (getD m 1 0) w × HasRow high l w) × (w ≢ v)) 128 r) where
+      found : Lowest (NotLower (StepsOf b labels) v l) 128 r
+      found = lowest-as (λ w h. (
+        λ ((c, d), a). (a, M .exactly w h .0 c, T .of-levels .exactly l w i h .0 d),
+        λ (a, c, d). ((M .exactly w h .1 c, T .of-levels .exactly l w i h .1 d), a),
+      )) L
+
+      pub loop-35 : r < 128 → FailsAt (StepsOf b labels) v l (LoopNotLower v l r)
+      loop-35 k = (
+        not-lower v l r,
+        fails-35 back (λ p. no-end (M .exactly 0 (omega arith) .1 p)) (record { holds = found .holds k; lowest = found .below }),
+        λ n. refl,
+      )
+
+      pub loop-passes : 128 ≤ r → LoopPasses (StepsOf b labels) v l
+      loop-passes k = record {
+        c33 = back;
+        c34 = λ p. no-end (M .exactly 0 (omega arith) .1 p);
+        c35 = λ w a p x o. by-cases (decLt x l) (λ q. q) (λ q.
+            let s = star-apart p a in
+            let j : w < verticesOf b = plus-below (loop-to (steps-formed b labels W) v l) s in
+            absurd (found .below w (omega (arith, W .header .vertices-high)) (a, s, (x, o, omega arith))));
+      }
+
+  -- BY WHAT ALL ENTRIES OF v REACH
+  module _ {all0 all1 : ℕ} (H : Whole (StepsOf b labels) v all0 all1) where
+    -- below the level m, it shows 34 and 35 of each loop of m or higher
+    pub passes-below : {l m : ℕ} → m < 256 → m ≤ l → 0 < l → Below all0 all1 high v m → Plus (InLoop (StepsOf b labels) v l) v v → LoopPasses (StepsOf b labels) v l
+    passes-below {l} {m} i g some B back = record {
+      c33 = back;
+      c34 = λ p. B .endless (H l 0 some (omega arith) p);
+      c35 = λ w a p x o. by-cases (decLt x l) (λ q. q) (λ q.
+          let r = star-apart p a in
+          let k : w < verticesOf b = plus-below (loop-to (steps-formed b labels W) v l) r in
+          let j : w < 128 = omega (arith, W .header .vertices-high) in
+          absurd (B .lower w j (H l w some j r) (T .of-levels .exactly m w i j .1 (x, o, omega arith)) a));
+    }
+
+    -- below the lowest level of v, it shows them of all
+    pub vertex-passes : {m : ℕ} → m ≡ getD low v 0 → m < 256 → Below all0 all1 high v m → AllBack after entries v → VertexSaid (StepsOf b labels) v Passed
+    vertex-passes {m} e i B R l (some, w, s) =
+        passes-below i lowest some B (comes s (R w (step-low W s .1) (T .of-entries .exactly v w at (step-low W s .1) .1 (l, some, s))))
+      where
+        lowest : m ≤ l
+        lowest = by-cases (decLt l m) (λ h. absurd (T .of-low .each v at .below l (omega arith) (some, w, s))) (λ h. omega arith)
+
+  -- a vertex with no entries
+  pub vertex-none : Bytes labels → 256 ≤ getD low v 0 → VertexSaid (StepsOf b labels) v Passed
+  vertex-none B h l o = let g = loop-below b labels W B o .1 in absurd (T .of-low .each v at .below l (omega arith) o)
 
 -- THE LOOPS OF A VERTEX
--- they are at most as many as there are levels
-pub loops-at-high : (b labels : List ℕ) (v : ℕ) → loopsAt b labels v ≤ 256
-unfolding loopsAt
-loops-at-high b labels v = row-high (loopAt b labels) v 0 256
-
--- the loops of v below `level` pass, `number` of them, and level is the next, or 256
-pub record VertexTo (b labels : List ℕ) (v number level : ℕ) : Type 0 where
+-- the loops of v below `level` pass, and level is the next, or 256
+pub record VertexTo (S : Steps) (v level : ℕ) : Type 0 where
   pub low : 0 < level
   pub high : level ≤ 256
-  pub is-loop : level < 256 → Loop (StepsOf b labels) v level
-  pub passed : (m : ℕ) → m < level → Loop (StepsOf b labels) v m → LoopPasses (StepsOf b labels) v m
-  pub counted : number + rowFrom (loopAt b labels) 256 v level ≡ loopsAt b labels v
+  pub is-loop : level < 256 → Loop S v level
+  pub passed : (m : ℕ) → m < level → Loop S v m → LoopPasses S v m
 
-module _ {b labels : List ℕ} (W : WellFormed b) (B : Bytes labels) (v : ℕ) where
-  not-loop : (k : ℕ) → ¬ Loop (StepsOf b labels) v k → loopAt b labels v k ≡ false
-  not-loop k h = is-false (tests-loop b labels W B v k) h
+module _ {S : Steps} {v : ℕ} where
+  pub vertex-begin : {r : ℕ} → NextLevel (Loop S v) 0 r → VertexTo S v r
+  vertex-begin N = record { low = N .above; high = N .high; is-loop = N .holds; passed = λ m h o. absurd (N .between m (o .0) h o) }
 
-  pub vertex-begin : {r : ℕ} → NextLevel (Loop (StepsOf b labels) v) 0 r → VertexTo b labels v 0 r
-  unfolding loopsAt
-  vertex-begin {r} N = record {
-    low = N .above;
-    high = N .high;
-    is-loop = N .holds;
-    passed = λ m h o. absurd (N .between m (o .0) h o);
-    counted = let e = row-skip (loopAt b labels) 256 v 0 r (omega arith) (N .high) none in omega arith;
-  }
-    where
-      none : (k : ℕ) → 0 ≤ k → k < r → loopAt b labels v k ≡ false
-      none k a h = not-loop k (λ o. N .between k (o .0) h o)
-
-  pub vertex-more : {number level r : ℕ} → VertexTo b labels v number level → level < 256 → LoopPasses (StepsOf b labels) v level → NextLevel (Loop (StepsOf b labels) v) level r → VertexTo b labels v (number + 1) r
-  vertex-more {number} {level} {r} T h p N = record {
+  pub vertex-more : {level r : ℕ} → VertexTo S v level → LoopPasses S v level → NextLevel (Loop S v) level r → VertexTo S v r
+  vertex-more {level} T p N = record {
     low = omega (arith, N .above);
     high = N .high;
     is-loop = N .holds;
     passed = λ m g o. by-cases (decLt m level) (λ q. T .passed m q o)
-        (λ q. by-cases (ℕ-discrete m level) (λ e. subst (LoopPasses (StepsOf b labels) v) (sym e) p) (λ e. absurd (N .between m (omega arith) g o)));
-    counted =
-        let a = row-one (loopAt b labels) 256 v level h (tests-loop b labels W B v level .1 (T .is-loop h)) in
-        let e = row-skip (loopAt b labels) 256 v (suc level) r (N .above) (N .high) (λ k x y. not-loop k (N .between k x y)) in
-        omega (arith, T .counted);
+        (λ q. by-cases (ℕ-discrete m level) (λ e. subst (LoopPasses S v) (sym e) p) (λ e. absurd (N .between m (omega arith) g o)));
   }
 
-module _ {b labels : List ℕ} {v number level : ℕ} (T : VertexTo b labels v number level) where
-  pub vertex-small : number ≤ 256
-  vertex-small = omega (arith, T .counted, loops-at-high b labels v)
+  pub vertex-stop : {level : ℕ} {s : Stage} {p : Place} → s ≡ Refused p → VertexTo S v level → level < 256 → LoopSaid S v level s → VertexSaid S v s
+  vertex-stop {level} e T h f = rw e (level, T .is-loop h, T .passed, rw e at f)
 
-  pub vertex-end : WellFormed b → Bytes labels → 256 ≤ level → VertexSaid (StepsOf b labels) (loopsAt b labels v) v (Passed number)
-  vertex-end W B h = (
-    let e : level ≡ 256 = omega (arith, T .high) in
-        let z = rw e at (T .counted) in
-        omega (arith, row-end (loopAt b labels) 256 v),
-    λ m o. T .passed m (omega (arith, loop-below b labels W B o .1)) o,
-  )
-
-  pub vertex-stop : {p : Place} → level < 256 → FailsAt (StepsOf b labels) v level p → VertexSaid (StepsOf b labels) (loopsAt b labels v) v (Refused p)
-  vertex-stop h f = (level, T .is-loop h, T .passed, f)
-
--- a vertex with none
-pub vertex-none : {b labels : List ℕ} {v : ℕ} → WellFormed b → Bytes labels → ((l : ℕ) → ¬ Loop (StepsOf b labels) v l) → VertexSaid (StepsOf b labels) (loopsAt b labels v) v (Passed 0)
-vertex-none {b} {labels} {v} W B h =
-    let N : NextLevel (Loop (StepsOf b labels) v) 0 256 = record { above = omega arith; high = omega arith; holds = λ l. absurd (omega arith); between = λ l g i. h l } in
-    vertex-end (vertex-begin W B v N) W B (omega arith)
+pub vertex-end : {b labels : List ℕ} {v level : ℕ} → WellFormed b → Bytes labels → VertexTo (StepsOf b labels) v level → 256 ≤ level → VertexSaid (StepsOf b labels) v Passed
+vertex-end {b} {labels} W B T h m o = T .passed m (omega (arith, loop-below b labels W B o .1)) o
 
 -- ALL LOOPS
--- the loops of the vertices below v pass, `loops` of them
-pub record LoopsTo (b labels : List ℕ) (loops v : ℕ) : Type 0 where
-  pub high : v ≤ verticesOf b
-  pub small : loops ≤ 256 * v
-  pub passed : (w m : ℕ) → w < v → Loop (StepsOf b labels) w m → LoopPasses (StepsOf b labels) w m
-  pub counted : loops + rowsFrom (loopAt b labels) 256 (verticesOf b) v ≡ loopsOf b labels
+-- those of the vertices below v pass
+abbrev pub LoopsTo : Steps → ℕ → Type 0
+LoopsTo S v = (w m : ℕ) → w < v → Loop S w m → LoopPasses S w m
 
-module _ {b labels : List ℕ} where
-  pub loops-begin : LoopsTo b labels 0 0
-  unfolding loopsOf loopList pairs
-  loops-begin = record { high = omega arith; small = omega arith; passed = λ w m h. absurd (omega arith); counted = omega (arith, whole) }
+pub loops-begin : {S : Steps} → LoopsTo S 0
+loops-begin w m h = absurd (omega arith)
+
+module _ {S : Steps} {v : ℕ} (T : LoopsTo S v) where
+  pub loops-more : VertexSaid S v Passed → LoopsTo S (v + 1)
+  loops-more p w m g o = by-cases (ℕ-discrete w v) (λ q. subst (λ (x : ℕ). LoopPasses S x m) (sym q) (p m (subst (λ (x : ℕ). Loop S x m) q o))) (λ q. T w m (omega arith) o)
+
+  pub loops-stop : {s : Stage} {p : Place} → s ≡ Refused p → VertexSaid S v s → LoopsSaid S s
+  loops-stop e f = rw e (stop (rw e at f))
     where
-      whole : rowsFrom (loopAt b labels) 256 (verticesOf b) 0 ≡ loopsOf b labels
-      whole = ap (λ (k : ℕ). length (pairsFrom (loopAt b labels) 256 0 k)) (sub-zero (verticesOf b))
+      stop : {p : Place} → VertexSaid S v (Refused p) → LoopsSaid S (Refused p)
+      stop (l, o, below, f) = (
+        v,
+        l,
+        o,
+        λ w m e q. ⊎-elim (λ h. T w m h q) (λ (z, h). subst (λ (x : ℕ). LoopPasses S x m) (sym z) (below m h (subst (λ (x : ℕ). Loop S x m) z q))) e,
+        f,
+      )
 
-  pub loops-more : {loops v n : ℕ} → LoopsTo b labels loops v → v < verticesOf b → VertexSaid (StepsOf b labels) (loopsAt b labels v) v (Passed n) → LoopsTo b labels (loops + n) (v + 1)
-  unfolding loopsAt
-  loops-more {loops} {v} {n} T h (e, p) = record {
-    high = omega arith;
-    small = omega (arith, T .small, loops-at-high b labels v);
-    passed = λ w m g o. by-cases (ℕ-discrete w v) (λ q. subst (λ (x : ℕ). LoopPasses (StepsOf b labels) x m) (sym q) (p m (subst (λ (x : ℕ). Loop (StepsOf b labels) x m) q o))) (λ q. T .passed w m (omega arith) o);
-    counted = rw (add-one v) (let a = rows-one (loopAt b labels) 256 (verticesOf b) v h in omega (arith, T .counted));
-  }
-
-  pub loops-end : {loops v : ℕ} → WellFormed b → Bytes labels → LoopsTo b labels loops v → verticesOf b ≤ v → LoopsSaid (StepsOf b labels) (loopsOf b labels) (Passed loops)
-  loops-end {loops} {v} W B T h = (
-    omega (arith, T .counted, rows-end (loopAt b labels) 256 (verticesOf b) v h),
-    λ w m o. T .passed w m (omega (arith, loop-below b labels W B o .0)) o,
-  )
-
-  pub loops-stop : {loops v : ℕ} {p : Place} → LoopsTo b labels loops v → VertexSaid (StepsOf b labels) (loopsAt b labels v) v (Refused p) → LoopsSaid (StepsOf b labels) (loopsOf b labels) (Refused p)
-  loops-stop {loops} {v} T (l, o, below, f) = (
-    v,
-    l,
-    o,
-    λ w m e q. ⊎-elim (λ h. T .passed w m h q) (λ (z, h). subst (λ (x : ℕ). LoopPasses (StepsOf b labels) x m) (sym z) (below m h (subst (λ (x : ℕ). Loop (StepsOf b labels) x m) z q))) e,
-    f,
-  )
+pub loops-end : {b labels : List ℕ} {v : ℕ} → WellFormed b → Bytes labels → LoopsTo (StepsOf b labels) v → verticesOf b ≤ v → LoopsSaid (StepsOf b labels) Passed
+loops-end {b} {labels} W B T h w m o = T w m (omega (arith, loop-below b labels W B o .0)) o

@@ -2,24 +2,24 @@
 use mathlib.Core.Path.{_≡_, refl, subst}
 use mathlib.Core.Logic.{_≢_, _↔_}
 use mathlib.Core.List.{List}
-use Prim.Native.Nat.{ℕ, _+_, _*_, _<_}
+use Prim.Native.Nat.{ℕ, _+_, _*_, _≤_, _<_}
 use native.Mathlib.Omega.{arith}
-use lib.ListN.{getD}
+use lib.ListN.{length, getD}
 use Rattle.bits.specs.Words.{Has}
-use Rattle.bits.proofs.Sets.{none}
-use Rattle.theory.specs.Paths.{Edges, Star, here, step, Plus, Avoid}
-use Rattle.theory.specs.Charts.{Steps, Any, Branch}
+use Rattle.theory.specs.Paths.{Edges, Star, Plus, Avoid}
+use Rattle.theory.specs.Charts.{Any, Branch}
 use Rattle.theory.specs.LoopCharts.{InLoop}
 use Rattle.theory.specs.Checks.{Unreached, OnBranchCycle}
-use Rattle.theory.proofs.Paths.{star-snoc, star-map, plus-of, plus-first, plus-map}
+use Rattle.theory.proofs.Paths.{star-map, plus-map}
 use Rattle.theory.proofs.Rounds.{body-iff}
 use Rattle.chart.specs.Bodies.{verticesOf, startOf, WellFormed}
-use Rattle.chart.specs.Sets.{Leads, Closed, FirstCycle}
+use Rattle.chart.specs.Sets.{Leads, Closed, Known, FirstCycle}
 use Rattle.chart.specs.Steps.{StepsOf}
 use Rattle.chart.proofs.Relations.{steps-formed}
-use Rattle.witness.specs.Given.{Tables, Shared}
+use Rattle.witness.specs.Given.{Afterwards, Tables}
+use Rattle.witness.specs.Loops.{Whole}
 use Rattle.witness.specs.Lowest.{Lowest}
-use Rattle.witness.specs.Tables.{Members, Table}
+use Rattle.bits.specs.Tables.{Members, Table}
 use Rattle.witness.proofs.Lowest.{lowest-here, lowest-none}
 
 -- from the vertices of B, along what the table has, which is E but for the transitions that leave stop
@@ -63,15 +63,21 @@ module _ {b labels : List ℕ} (W : WellFormed b) where
       (λ w. (λ (x, e, p). subst (λ (u : ℕ). Star (Any (StepsOf b labels)) u w) e p, λ p. (start, refl, p)))
 
   module _ {branches : List ℕ} (T : Table 128 (Branch (StepsOf b labels)) branches) where
-    -- 32: the table's first cycle is one of branches
+    there : (u w : ℕ) → Leads branches u w → Branch (StepsOf b labels) u w
+    there u w s = T .exactly u w (s .from) (s .to) .0 (s .has)
+
+    back : (u w : ℕ) → Branch (StepsOf b labels) u w → Leads branches u w
+    back u w s = let (i, j) = step-low s in record { from = i; to = j; has = T .exactly u w i j .1 s }
+
+    -- 32: the table's first cycle is one of branches, and what it reaches is what branches reach
     pub cycle-lowest : {n r : ℕ} → FirstCycle branches n r → Lowest (OnBranchCycle (StepsOf b labels)) n r
     cycle-lowest C = record { within = C .within; holds = λ h. plus-map there (C .cycles h); below = λ k h p. C .below k h (plus-map back p) }
-      where
-        there : (u w : ℕ) → Leads branches u w → Branch (StepsOf b labels) u w
-        there u w s = T .exactly u w (s .from) (s .to) .0 (s .has)
 
-        back : (u w : ℕ) → Branch (StepsOf b labels) u w → Leads branches u w
-        back u w s = let (i, j) = step-low s in record { from = i; to = j; has = T .exactly u w i j .1 s }
+    pub afterwards : {n : ℕ} {after : List ℕ} → n ≤ 128 → length after ≡ 256 → Known branches after 0 n → Afterwards n (StepsOf b labels) after
+    afterwards l e K = record { long = e; exactly = λ x y h m. let k = K .exactly x y (omega arith) h (omega arith) m in (λ g. plus-map there (k .0 g), λ p. k .1 (plus-map back p)) }
+
+    pub known-after : {n : ℕ} {after : List ℕ} → Afterwards n (StepsOf b labels) after → Known branches after 0 n
+    known-after A = record { exactly = λ x y z h i m. let k = A .exactly x y h m in (λ g. plus-map back (k .0 g), λ p. k .1 (plus-map there p)) }
 
     -- 33 to 35: the body of the loop (v, l)
     pub members-body : {r : List ℕ} {v l lo hi : ℕ} → ((w : ℕ) → w < 128 → Has lo hi w ↔ StepsOf b labels v l w) → Closed branches v lo hi r → Members (Plus (InLoop (StepsOf b labels) v l) v) r
@@ -85,27 +91,13 @@ module _ {b labels : List ℕ} (W : WellFormed b) where
         R
         (λ w. (body-iff w .1, body-iff w .0))
 
--- what the loops of v share: nothing yet, or what their entries lead to and what leads to v
-back-along : {a : List ℕ} {E : Edges} {stop u w : ℕ} → ((x y : ℕ) → Leads a x y → E y x) → Star (Avoid stop (Leads a)) u w → Star E w u
-back-along h here = here
-back-along h (step (n, e) p) = star-snoc (back-along h p) (h _ _ e)
-
-pub shared-none : {S : Steps} {v : ℕ} → Shared S v (record { all0 = 0; all1 = 0; back0 = 0; back1 = 0 })
-shared-none = record { back = λ t h k. absurd (none t k); whole = λ t k. absurd (none t k) }
-
-pub shared-sets : {b labels branches origins entries high all back set : List ℕ} {v : ℕ} → WellFormed b → Tables b labels branches origins entries high → v < 128 → Closed branches v (getD entries (2 * v) 0) (getD entries (2 * v + 1) 0) all → Members (λ (w : ℕ). w ≡ v) set → Closed origins 0 (getD set 0 0) (getD set 1 0) back
-    → Shared (StepsOf b labels) v (record { all0 = getD all 0 0; all1 = getD all 1 0; back0 = getD back 0 0; back1 = getD back 1 0 })
-shared-sets {b} {labels} {branches} {origins} {v = v} W T h A M B = record {
-  back = λ t l k. let (u, i, m, p) = B .exactly t l .0 k in subst (Star (Branch (StepsOf b labels)) t) (M .exactly u i .0 m) (back-along whence p);
-  whole = λ t k l w some i p.
-      let (x, s, q) = body-iff w .0 p in
-      let j = step-low W s .1 in
-      A .exactly w i .1 (x, j, T .of-entries .exactly v x h j .1 (l, some, s), star-map onward q);
-}
+-- what all entries of v reach has the body of each loop of v
+pub whole-set : {b labels branches after entries low high all : List ℕ} {v : ℕ} → WellFormed b → Tables b labels branches after entries low high → v < 128 → Closed branches v (getD entries (2 * v) 0) (getD entries (2 * v + 1) 0) all → Whole (StepsOf b labels) v (getD all 0 0) (getD all 1 0)
+whole-set {b} {labels} {branches} {v = v} W T h A l w some i p =
+    let (x, s, q) = body-iff w .0 p in
+    let j = step-low W s .1 in
+    A .exactly w i .1 (x, j, T .of-entries .exactly v x h j .1 (l, some, s), star-map onward q)
   where
-    whence : (x y : ℕ) → Leads origins x y → Branch (StepsOf b labels) y x
-    whence x y e = T .of-origins .exactly x y (e .from) (e .to) .0 (e .has)
-
     onward : (x y : ℕ) → Avoid v (Branch (StepsOf b labels)) x y → Avoid v (Leads branches) x y
     onward x y (n, s) = let (i, j) = step-low W s in (n, record { from = i; to = j; has = T .of-branches .exactly x y i j .1 s })
 

@@ -2,7 +2,6 @@
 pub mod Labellings
 pub mod Meanings
 pub mod Lowest
-pub mod Tables
 pub mod Given
 pub mod Answers
 pub mod Loops

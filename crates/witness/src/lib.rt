@@ -11,8 +11,8 @@ use reached::unreached;
 use report::Place;
 use report::Stage;
 use tables::collect;
+use tables::count_loops;
 use tables::join_later;
-use tables::unite;
 ghost use mathlib.Core.Path.{_≡_};
 ghost use Rattle.chart.specs.Checks.{checkOf};
 ghost use Rattle.witness.specs.Labellings.{labelledOf};
@@ -28,34 +28,49 @@ pub fn check(body: &[u8], labels: &[u8]) -> Labelled
     requires { ⌜ checkOf (now body) ≡ Stage.Passed ⌝ }
     ensures { λ r. ⌜ r ≡ labelledOf (now (body .entry)) (now (labels .entry)) ⌝ }
 {
-    let t = chart::count(body);
-    if labels.len() != t {
+    if labels.len() != chart::count(body) {
         return Labelled::Refused(Place::LabelsLength(labels.len()));
     }
     let n = byte(body, 0);
+    let mut next = [0u64; 256];
     let mut branches = [0u64; 256];
-    let mut origins = [0u64; 256];
     let mut entries = [0u64; 256];
+    let mut low = [256usize; 128];
     let mut high = [0u64; 512];
+    let rows = chart::rows(body);
     collect(
         body,
         labels,
-        t,
+        &rows,
+        n,
+        &mut next,
         &mut branches,
-        &mut origins,
         &mut entries,
+        &mut low,
         &mut high,
     );
-    let next = unite(&branches, &entries);
     let p = unreached(body, &next);
     if p < n {
         return Labelled::Refused(Place::Unreached(p));
     }
-    let c = branch_cycle(body, &branches);
+    let mut after = [0u64; 256];
+    let c = branch_cycle(body, &branches, &mut after);
     if c < n {
         return Labelled::Refused(Place::BranchCycle(c));
     }
+    let loops = count_loops(&high);
     join_later(&mut high);
-    let rows = chart::rows(body);
-    loops_check(body, labels, &rows, &branches, &origins, &entries, &high)
+    match loops_check(
+        body,
+        labels,
+        &rows,
+        &branches,
+        &after,
+        &entries,
+        &low,
+        &high,
+    ) {
+        Stage::Refused(place) => Labelled::Refused(place),
+        Stage::Passed => Labelled::Passed(loops),
+    }
 }

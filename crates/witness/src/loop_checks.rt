@@ -1,38 +1,32 @@
 // The checks 33 to 35: of one loop, of the loops of a vertex, of all loops.
-use super::Labelled;
 use super::levels::next_level;
 use super::levels::sort_entries;
-use super::reached::only;
 use bits::both;
+use bits::but;
 use bits::byte;
 use bits::holds;
 use bits::lowest;
+use bits::rest;
+use bits::with;
 use bits::without;
 use chart::sets::closure;
+use chart::sets::closure_knowing;
 use report::Place;
 use report::Stage;
 ghost use mathlib.Core.Path.{_≡_};
 ghost use mathlib.Core.Logic.{_≢_, _↔_};
 ghost use mathlib.Core.Bool.{true};
 ghost use mathlib.Core.List.{List};
-ghost use Prim.Native.Nat.{ℕ, _<_};
+ghost use Prim.Native.Nat.{ℕ, _+_, _≤_, _<_};
 ghost use lib.ListN.{length};
-ghost use Rattle.bits.specs.Words.{Has, HasRow};
-ghost use Rattle.chart.specs.Bodies.{WellFormed};
+ghost use Rattle.bits.specs.Words.{On, Has, HasRow};
+ghost use Rattle.chart.specs.Bodies.{verticesOf, WellFormed};
+ghost use Rattle.chart.specs.Sets.{Known};
 ghost use Rattle.chart.specs.Steps.{StepsOf};
-ghost use Rattle.witness.specs.Answers.{VertexSaid, LoopsSaid, loopsAt};
-ghost use Rattle.witness.specs.Given.{Given, Tables, Shared};
-ghost use Rattle.witness.specs.Labellings.{loopsOf};
-ghost use Rattle.witness.specs.Loops.{LoopSaid, AtOnce};
+ghost use Rattle.witness.specs.Answers.{VertexSaid, LoopsSaid};
+ghost use Rattle.witness.specs.Given.{Given, Tables};
+ghost use Rattle.witness.specs.Loops.{LoopSaid, Below, Whole, Back, AllBack, WithIf};
 ghost use Rattle.witness.specs.Lowest.{Lowest};
-
-// What the loops of a vertex share: what all their entries lead to, and what leads to the vertex.
-pub struct Common {
-    pub all0: u64,
-    pub all1: u64,
-    pub back0: u64,
-    pub back1: u64,
-}
 
 // The lowest vertex of a set, or 128.
 fn lowest_of(lo: u64, hi: u64) -> usize
@@ -68,70 +62,83 @@ fn not_lower(lo: u64, hi: u64, high: &[u64; 512], v: usize, level: usize) -> usi
     lowest_other(low_ones, high_ones, v)
 }
 
-// What the loops of v share, worked out at the second of them.
-fn share(
-    branches: &[u64; 256],
-    origins: &[u64; 256],
-    entries: &[u64; 256],
-    v: usize,
-    number: usize,
-    s: Common,
-) -> Common
-    requires { ⌜ (length (now branches) ≡ 256) × (length (now origins) ≡ 256) × (length (now entries) ≡ 256) × (v < 128) ⌝ }
-    ensures { λ r. ⌜ ((b labels high : List ℕ) → WellFormed b → Tables b labels (now (branches .entry)) (now (origins .entry)) (now (entries .entry)) high → Shared (StepsOf b labels) v s → Shared (StepsOf b labels) v r) ⌝ }
-{
-    if number != 1 {
-        return s;
-    }
-    let all = closure(
-        branches,
-        branches,
-        0,
-        0,
-        v,
-        entries[2 * v],
-        entries[2 * v + 1],
-    );
-    let start = only(v);
-    let back = closure(origins, origins, 0, 0, 0, start[0], start[1]);
-    Common {
-        all0: all[0],
-        all1: all[1],
-        back0: back[0],
-        back1: back[1],
-    }
-}
-
-// Whether what the loops of v share shows that the one whose entries lead to the set passes.
-fn passes_at_once(high: &[u64; 512], v: usize, level: usize, lo: u64, hi: u64, s: Common) -> bool
+// Whether a set has neither the end nor, v aside, a vertex with an entry of this level or a higher one.
+fn below(lo: u64, hi: u64, high: &[u64; 512], v: usize, level: usize) -> bool
     requires { ⌜ (length (now high) ≡ 512) × (v < 128) × (level < 256) ⌝ }
-    ensures { λ r. ⌜ (r ≡ true → AtOnce lo hi (now (high .entry)) v level s) ⌝ }
+    ensures { λ r. ⌜ (r ≡ true → Below lo hi (now (high .entry)) v level) ⌝ }
 {
-    if lowest_of(both(lo, s.back0), both(hi, s.back1)) == 128 {
+    if holds(lo, hi, 0) {
         return false;
     }
-    if holds(s.all0, s.all1, 0) {
-        return false;
-    }
-    not_lower(s.all0, s.all1, high, v, level) == 128
+    not_lower(lo, hi, high, v, level) == 128
 }
 
-// 33, 34 and 35 of the loop of v whose entries lead to the set.
+// Whether x is v or leads to it.
+fn comes_back(after: &[u64; 256], v: usize, x: usize) -> bool
+    requires { ⌜ (length (now after) ≡ 256) × (x < 128) ⌝ }
+    ensures { λ r. ⌜ (r ≡ true) ↔ Back (now (after .entry)) v x ⌝ }
+{
+    (x == v) | holds(after[2 * x], after[2 * x + 1], v)
+}
+
+// The word, with bit k too where x is v or leads to it.
+fn with_back(word: u64, k: usize, after: &[u64; 256], v: usize, x: usize) -> u64
+    requires { ⌜ (k < 64) × (length (now after) ≡ 256) × (x < 128) ⌝ }
+    ensures { λ r. ⌜ WithIf (Back (now (after .entry)) v x) word k r ⌝ }
+{
+    if comes_back(after, v, x) {
+        return with(word, k);
+    }
+    word
+}
+
+// Of the bits of a word, from vertex `from` on, those whose vertex is v or leads to it.
+fn returning(after: &[u64; 256], v: usize, from: usize, word: u64) -> u64
+    requires { ⌜ (length (now after) ≡ 256) × (from ≤ 64) ⌝ }
+    ensures { λ r. ⌜ ((k : ℕ) → On r k ↔ (On word k × Back (now (after .entry)) v (from + k))) ⌝ }
+{
+    let mut found: u64 = 0;
+    let mut left = word;
+    while left != 0 {
+        let k = lowest(left);
+        found = with_back(found, k, after, v, from + k);
+        left = rest(left);
+    }
+    found
+}
+
+// The lowest vertex of a set that is v or leads to it, or 128.
+fn first_back(after: &[u64; 256], v: usize, lo: u64, hi: u64) -> usize
+    requires { ⌜ length (now after) ≡ 256 ⌝ }
+    ensures { λ r. ⌜ Lowest (λ (w : ℕ). Has lo hi w × Back (now (after .entry)) v w) 128 r ⌝ }
+{
+    lowest_of(returning(after, v, 0, lo), returning(after, v, 64, hi))
+}
+
+// 33, 34 and 35 of the loop of v whose entries lead to the set (lo, hi). The set `all` has what all entries of v reach: where that
+// is below the level, the loop's own body is.
 fn loop_check(
     branches: &[u64; 256],
+    after: &[u64; 256],
     high: &[u64; 512],
+    n: usize,
     v: usize,
     level: usize,
     lo: u64,
     hi: u64,
+    all0: u64,
+    all1: u64,
 ) -> Stage
-    requires { ⌜ (length (now branches) ≡ 256) × (length (now high) ≡ 512) × (v < 128) × (level < 256) ⌝ }
-    ensures { λ r. ⌜ ((b labels origins entries : List ℕ) → WellFormed b → Tables b labels (now (branches .entry)) origins entries (now (high .entry)) → ((w : ℕ) → w < 128 → Has lo hi w ↔ StepsOf b labels v level w) → LoopSaid (StepsOf b labels) v level r) ⌝ }
+    requires { ⌜ (length (now branches) ≡ 256) × (length (now after) ≡ 256) × (length (now high) ≡ 512) × (v < 128) × (level < 256) × Known (now branches) (now after) 0 n ⌝ }
+    ensures { λ r. ⌜ ((b labels entries low : List ℕ) → WellFormed b → Tables b labels (now (branches .entry)) (now (after .entry)) entries low (now (high .entry)) → 0 < level → ((w : ℕ) → w < 128 → Has lo hi w ↔ StepsOf b labels v level w) → Whole (StepsOf b labels) v all0 all1 → LoopSaid (StepsOf b labels) v level r) ⌝ }
 {
-    let inside = closure(branches, branches, 0, 0, v, lo, hi);
-    if !holds(inside[0], inside[1], v) {
+    if first_back(after, v, lo, hi) == 128 {
         return Stage::Refused(Place::LoopNoReturn(v, level));
     }
+    if below(all0, all1, high, v, level) {
+        return Stage::Passed;
+    }
+    let inside = closure_knowing(branches, after, 0, n, v, lo, hi);
     if holds(inside[0], inside[1], 0) {
         return Stage::Refused(Place::LoopEndInside(v, level));
     }
@@ -142,109 +149,131 @@ fn loop_check(
     Stage::Passed
 }
 
-// The same, by what the loops of v share where that is enough.
-fn quick_check(
-    branches: &[u64; 256],
-    high: &[u64; 512],
-    v: usize,
-    level: usize,
-    lo: u64,
-    hi: u64,
-    s: Common,
-) -> Stage
-    requires { ⌜ (length (now branches) ≡ 256) × (length (now high) ≡ 512) × (v < 128) × (level < 256) ⌝ }
-    ensures { λ r. ⌜ ((b labels origins entries : List ℕ) → WellFormed b → Tables b labels (now (branches .entry)) origins entries (now (high .entry)) → Shared (StepsOf b labels) v s → 0 < level → ((w : ℕ) → w < 128 → Has lo hi w ↔ StepsOf b labels v level w) → LoopSaid (StepsOf b labels) v level r) ⌝ }
-{
-    if passes_at_once(high, v, level, lo, hi, s) {
-        return Stage::Passed;
-    }
-    loop_check(branches, high, v, level, lo, hi)
-}
-
-// 33 to 35 of the loops of one vertex that has some, by level, and how many they are.
+// 33 to 35 of the loops of one vertex, by level, each for itself.
 fn entries_check(
     body: &[u8],
     labels: &[u8],
     rows: &[usize; 129],
     branches: &[u64; 256],
-    origins: &[u64; 256],
+    after: &[u64; 256],
     entries: &[u64; 256],
+    low: &[usize; 128],
     high: &[u64; 512],
+    n: usize,
     v: usize,
-) -> Labelled
-    requires { ⌜ Given (now body) (now labels) (now rows) × Tables (now body) (now labels) (now branches) (now origins) (now entries) (now high) × (v < 128) ⌝ }
-    ensures { λ r. ⌜ VertexSaid (StepsOf (now (body .entry)) (now (labels .entry))) (loopsAt (now (body .entry)) (now (labels .entry)) v) v r ⌝ }
+    all0: u64,
+    all1: u64,
+) -> Stage
+    requires { ⌜ Given (now body) (now labels) (now rows) × Tables (now body) (now labels) (now branches) (now after) (now entries) (now low) (now high) × (v < 128) × Whole (StepsOf (now body) (now labels)) v all0 all1 × (n ≡ verticesOf (now body)) ⌝ }
+    ensures { λ r. ⌜ VertexSaid (StepsOf (now (body .entry)) (now (labels .entry))) v r ⌝ }
 {
     let mut levels = [0u64; 4];
     let mut targets = [0u64; 512];
     sort_entries(body, labels, rows, v, &mut levels, &mut targets);
-    let mut s = Common {
-        all0: 0,
-        all1: 0,
-        back0: 0,
-        back1: 0,
-    };
-    let mut number: usize = 0;
     let mut level = next_level(&levels, 0);
     while level < 256 {
-        s = share(branches, origins, entries, v, number, s);
         let lo = targets[2 * level];
         let hi = targets[2 * level + 1];
-        match quick_check(branches, high, v, level, lo, hi, s) {
-            Stage::Refused(place) => return Labelled::Refused(place),
-            Stage::Passed => {
-                number += 1;
-                level = next_level(&levels, level);
-            }
-        }
+        let said = loop_check(branches, after, high, n, v, level, lo, hi, all0, all1);
+        let Stage::Passed = said else {
+            return said;
+        };
+        level = next_level(&levels, level);
     }
-    Labelled::Passed(number)
+    Stage::Passed
 }
 
-// 33 to 35 of the loops of one vertex, by level, and how many they are.
+// Whether all that the entries of v lead to returns to v.
+fn all_return(after: &[u64; 256], entries: &[u64; 256], v: usize) -> bool
+    requires { ⌜ (length (now after) ≡ 256) × (length (now entries) ≡ 256) × (v < 128) ⌝ }
+    ensures { λ r. ⌜ (r ≡ true → AllBack (now (after .entry)) (now (entries .entry)) v) ⌝ }
+{
+    let lo = entries[2 * v];
+    let hi = entries[2 * v + 1];
+    (but(lo, returning(after, v, 0, lo)) == 0) & (but(hi, returning(after, v, 64, hi)) == 0)
+}
+
+// Whether all that the entries of v lead to returns to v, and the set `all` is below this level.
+fn pass_at_once(
+    after: &[u64; 256],
+    entries: &[u64; 256],
+    high: &[u64; 512],
+    v: usize,
+    level: usize,
+    all0: u64,
+    all1: u64,
+) -> bool
+    requires { ⌜ (length (now after) ≡ 256) × (length (now entries) ≡ 256) × (length (now high) ≡ 512) × (v < 128) × (level < 256) ⌝ }
+    ensures { λ r. ⌜ (r ≡ true → Below all0 all1 (now (high .entry)) v level × AllBack (now (after .entry)) (now (entries .entry)) v) ⌝ }
+{
+    if !below(all0, all1, high, v, level) {
+        return false;
+    }
+    all_return(after, entries, v)
+}
+
+// 33 to 35 of the loops of one vertex. Where all that its entries lead to returns, and all that they reach is below the lowest
+// level, each loop passes.
 fn vertex_check(
     body: &[u8],
     labels: &[u8],
     rows: &[usize; 129],
     branches: &[u64; 256],
-    origins: &[u64; 256],
+    after: &[u64; 256],
     entries: &[u64; 256],
+    low: &[usize; 128],
     high: &[u64; 512],
     v: usize,
-) -> Labelled
-    requires { ⌜ Given (now body) (now labels) (now rows) × Tables (now body) (now labels) (now branches) (now origins) (now entries) (now high) × (v < 128) ⌝ }
-    ensures { λ r. ⌜ VertexSaid (StepsOf (now (body .entry)) (now (labels .entry))) (loopsAt (now (body .entry)) (now (labels .entry)) v) v r ⌝ }
+) -> Stage
+    requires { ⌜ Given (now body) (now labels) (now rows) × Tables (now body) (now labels) (now branches) (now after) (now entries) (now low) (now high) × (v < 128) ⌝ }
+    ensures { λ r. ⌜ VertexSaid (StepsOf (now (body .entry)) (now (labels .entry))) v r ⌝ }
 {
-    if !holds(high[2], high[3], v) {
-        return Labelled::Passed(0);
+    let level = low[v];
+    if level >= 256 {
+        return Stage::Passed;
     }
-    entries_check(body, labels, rows, branches, origins, entries, high, v)
+    let all = closure(branches, v, entries[2 * v], entries[2 * v + 1]);
+    if pass_at_once(after, entries, high, v, level, all[0], all[1]) {
+        return Stage::Passed;
+    }
+    entries_check(
+        body,
+        labels,
+        rows,
+        branches,
+        after,
+        entries,
+        low,
+        high,
+        byte(body, 0),
+        v,
+        all[0],
+        all[1],
+    )
 }
 
-// 33 to 35 of all loops, by vertex and then by level, and how many they are.
+// 33 to 35 of all loops, by vertex and then by level.
 pub(crate) fn loops_check(
     body: &[u8],
     labels: &[u8],
     rows: &[usize; 129],
     branches: &[u64; 256],
-    origins: &[u64; 256],
+    after: &[u64; 256],
     entries: &[u64; 256],
+    low: &[usize; 128],
     high: &[u64; 512],
-) -> Labelled
-    requires { ⌜ Given (now body) (now labels) (now rows) × Tables (now body) (now labels) (now branches) (now origins) (now entries) (now high) ⌝ }
-    ensures { λ r. ⌜ LoopsSaid (StepsOf (now (body .entry)) (now (labels .entry))) (loopsOf (now (body .entry)) (now (labels .entry))) r ⌝ }
+) -> Stage
+    requires { ⌜ Given (now body) (now labels) (now rows) × Tables (now body) (now labels) (now branches) (now after) (now entries) (now low) (now high) ⌝ }
+    ensures { λ r. ⌜ LoopsSaid (StepsOf (now (body .entry)) (now (labels .entry))) r ⌝ }
 {
     let n = byte(body, 0);
-    let mut loops: usize = 0;
     let mut v: usize = 0;
     while v < n {
-        match vertex_check(body, labels, rows, branches, origins, entries, high, v) {
-            Labelled::Refused(place) => return Labelled::Refused(place),
-            Labelled::Passed(more) => {
-                loops += more;
-                v += 1;
-            }
-        }
+        let said = vertex_check(body, labels, rows, branches, after, entries, low, high, v);
+        let Stage::Passed = said else {
+            return said;
+        };
+        v += 1;
     }
-    Labelled::Passed(loops)
+    Stage::Passed
 }

@@ -13,8 +13,9 @@ ghost use Rattle.theory.specs.Checks.{Unreached, OnBranchCycle};
 ghost use Rattle.chart.specs.Bodies.{verticesOf, startOf};
 ghost use Rattle.chart.specs.Checks.{checkOf};
 ghost use Rattle.chart.specs.Steps.{StepsOf};
+ghost use Rattle.witness.specs.Given.{Afterwards};
 ghost use Rattle.witness.specs.Lowest.{Lowest};
-ghost use Rattle.witness.specs.Tables.{Members, Table};
+ghost use Rattle.bits.specs.Tables.{Members, Table};
 use report::Stage;
 
 // The set of one vertex.
@@ -34,7 +35,7 @@ pub(crate) fn unreached(body: &[u8], next: &[u64; 256]) -> usize
 {
     let n = byte(body, 0);
     let start = only(byte(body, 1));
-    let reached = closure(next, next, 0, 0, 0, start[0], start[1]);
+    let reached = closure(next, 0, start[0], start[1]);
     let mut w: usize = 1;
     while w < n {
         if !holds(reached[0], reached[1], w) {
@@ -45,10 +46,10 @@ pub(crate) fn unreached(body: &[u8], next: &[u64; 256]) -> usize
     w
 }
 
-// 32: the lowest vertex on a branch cycle, or V.
-pub(crate) fn branch_cycle(body: &[u8], branches: &[u64; 256]) -> usize
-    requires { ⌜ (checkOf (now body) ≡ Stage.Passed) × (length (now branches) ≡ 256) ⌝ }
-    ensures { λ r. ⌜ ((labels : List ℕ) → Table 128 (Branch (StepsOf (now (body .entry)) labels)) (now (branches .entry)) → Lowest (OnBranchCycle (StepsOf (now (body .entry)) labels)) (verticesOf (now (body .entry))) r) ⌝ }
+// 32: the lowest vertex on a branch cycle, or V. Where there is none, `after` has what each vertex reaches.
+pub(crate) fn branch_cycle(body: &[u8], branches: &[u64; 256], after: &mut [u64; 256]) -> usize
+    requires { ⌜ (checkOf (now body) ≡ Stage.Passed) × (length (now branches) ≡ 256) × (length (now after) ≡ 256) ⌝ }
+    ensures { λ r. ⌜ (length (now (after .exit)) ≡ 256) × ((labels : List ℕ) → Table 128 (Branch (StepsOf (now (body .entry)) labels)) (now (branches .entry)) → Lowest (OnBranchCycle (StepsOf (now (body .entry)) labels)) (verticesOf (now (body .entry))) r × (r ≡ verticesOf (now (body .entry)) → Afterwards (verticesOf (now (body .entry))) (StepsOf (now (body .entry)) labels) (now (after .exit)))) ⌝ }
 {
-    cycle(branches, byte(body, 0))
+    cycle(branches, byte(body, 0), after)
 }

@@ -10,7 +10,7 @@ sub-result : tie.Need-sub-result
 sub-result c = highest-law (c .args .x) (c .pre) (c .fits .x .fits) .0
 
 returns : tie.Need-returns
-returns c = let h = highest-law (c .args .x) (c .pre) (c .fits .x .fits) in (h .1, h .2)
+returns c = highest-law (c .args .x) (c .pre) (c .fits .x .fits) .1
 
 pub highest-spec : {M : Type 1} → statement M
 highest-spec = tie.close (tie.spec cast-result sub-result returns)

@@ -4,14 +4,15 @@ use native.Mathlib.Omega.{arith}
 use lib.ListN.{length}
 use borrow.Author.Needs.{needs}
 use Rattle.chart.specs.Bodies.{countOf, WellFormed}
-use Rattle.chart.specs.Tabled.{Tabled}
+use Rattle.bits.specs.Tables.{Table}
+use Rattle.bits.proofs.Tables.{table-as}
 use Rattle.chart.proofs.Checks.{well-formed}
-use Rattle.chart.proofs.Marking.{KeptBelow, tabled-none, tabled-more, tabled-as, kept-more, kept-whole, from-low, to-low}
+use Rattle.chart.proofs.Marking.{KeptBelow, table-none, table-more, kept-more, kept-whole, from-low, to-low}
 use Rattle.chart.proofs.kept_table.Statement.{statement}
 use Rattle.chart.proofs.kept_table.Tie as tie
 
 abbrev Inv-loop : tie.InvT-loop
-Inv-loop body keep n table₀ i₀ table i = WellFormed body × (countOf body ≤ length keep) × (n ≡ countOf body) × (i ≤ n) × Tabled 128 (KeptBelow body keep i) table
+Inv-loop body keep n table₀ i₀ table i = WellFormed body × (countOf body ≤ length keep) × (n ≡ countOf body) × (i ≤ n) × Table 128 (KeptBelow body keep i) table
 
 abbrev μ-loop : tie.MeasureT-loop
 μ-loop body keep n table₀ i₀ table i = n - i
@@ -22,7 +23,7 @@ count-requires c κs = well-formed _ (c .before .before .pre .0) .header .long
 loop-holds : tie.Need-loop-holds Inv-loop μ-loop
 loop-holds c =
     let p = c .before .before .before .pre in
-    (well-formed _ (p .0), p .1, c .count .ensures .0, omega arith, tabled-none 128 (λ x y e. omega (arith, e .1)))
+    (well-formed _ (p .0), p .1, c .count .ensures .0, omega arith, table-none 128 (λ x y e. omega (arith, e .1)))
 
 mul-p : tie.Need-mul-p Inv-loop μ-loop
 mul-p c = search needs
@@ -62,10 +63,10 @@ loop-again c =
     let k = c .before .before .before .before .before .before .before .loop in
     let a = c .before .before .before .before .before .before .before .before .before .before .before .args in
     let more = kept-more (a .body .now) (a .keep .now) (k .i) (omega arith) (c .before .before .before .before .before .byte .ensures .0) (c .before .before .before .byte2 .ensures .0) (c .before .before .byte3 .ensures .0) in
-    (k .inv .0, k .inv .1, k .inv .2, omega arith, tabled-more (c .before .insert-flagged .ensures) more (k .inv .4))
+    (k .inv .0, k .inv .1, k .inv .2, omega arith, table-more (c .before .insert-flagged .ensures) more (k .inv .4))
 
 returns : tie.Need-returns Inv-loop μ-loop
-returns c = tabled-as (kept-whole (omega arith)) (c .before .loop .inv .4)
+returns c = table-as (kept-whole (omega arith)) (c .before .loop .inv .4)
 
 pub kept-table-spec : {M : Type 1} → statement M
 kept-table-spec =

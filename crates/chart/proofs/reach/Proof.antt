@@ -3,7 +3,6 @@ use lib.ListN.{length}
 use borrow.Author.Needs.{needs}
 use Rattle.chart.proofs.Checks.{well-formed}
 use Rattle.chart.proofs.Marking.{closed-reached}
-use Rattle.chart.proofs.Searches.{known-none}
 use Rattle.chart.proofs.reach.Statement.{statement}
 use Rattle.chart.proofs.reach.Tie as tie
 
@@ -20,7 +19,7 @@ array-read-closure-2 : tie.Need-array-read-closure-2
 array-read-closure-2 c = search needs
 
 closure-requires : tie.Need-closure-requires
-closure-requires c κs = let l = c .before .before .before .before .kept-table .ensures .long in (l, l, known-none _ _)
+closure-requires c κs = let l = c .before .before .before .kept-table .ensures .long in l
 
 array-read-set-marks : tie.Need-array-read-set-marks
 array-read-set-marks c = search needs
@@ -33,9 +32,9 @@ set-marks-requires c κs = search needs
 
 returns : tie.Need-returns
 returns c =
-    let k = c .before .before .before .before .before .before .before .before .before in
+    let k = c .before .before .before .before .before .before .before .before in
     let l : length (k .args .t4) ≡ 128 = search needs in
-    closed-reached (well-formed _ (k .pre .0)) l (c .before .before .before .before .before .before .kept-table .ensures) (c .before .before .before .before .marked-set .ensures) (c .before .closure .ensures) (c .set-marks .ensures)
+    closed-reached (well-formed _ (k .pre .0)) l (c .before .before .before .before .before .kept-table .ensures) (c .before .before .before .marked-set .ensures) (c .before .closure .ensures) (c .set-marks .ensures)
 
 pub reach-spec : {M : Type 1} → statement M
 reach-spec =

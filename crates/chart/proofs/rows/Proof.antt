@@ -1,35 +1,37 @@
 use mathlib.Core.Path.{_≡_}
-use Prim.Native.Nat.{_-_}
+use Prim.Native.Nat.{_-_, _≤_}
 use native.Mathlib.Omega.{arith}
 use borrow.Author.Needs.{needs}
 use Rattle.report.specs.declared.Stage.the-variants.{Passed}
 use Rattle.chart.specs.Checks.{checkOf}
-use Rattle.chart.specs.Bodies.{countOf}
-use Rattle.chart.proofs.Order.{RowsBelow, rows-more, rows-all}
+use Rattle.chart.specs.Bodies.{verticesOf, countOf}
+use Rattle.chart.proofs.Order.{RowsBelow, rows-none, rows-more, rows-all}
 use Rattle.chart.proofs.Checks.{well-formed}
 use Rattle.chart.proofs.rows.Statement.{statement}
 use Rattle.chart.proofs.rows.Tie as tie
 
 abbrev Inv-loop : tie.InvT-loop
-Inv-loop body n rows₀ at₀ v₀ rows at v = (checkOf body ≡ Passed) × (n ≡ countOf body) × RowsBelow body n rows at v
+Inv-loop body n vertices rows₀ at₀ v₀ rows at v = (checkOf body ≡ Passed) × (n ≡ countOf body) × (vertices ≡ verticesOf body) × (vertices ≤ 128) × RowsBelow body n rows at v
 
 abbrev μ-loop : tie.MeasureT-loop
-μ-loop body n rows₀ at₀ v₀ rows at v = 129 - v
+μ-loop body n vertices rows₀ at₀ v₀ rows at v = vertices - v
 
 count-requires : tie.Need-count-requires Inv-loop μ-loop
 count-requires c κs = well-formed _ (c .before .pre) .header .long
 
+byte-requires : tie.Need-byte-requires Inv-loop μ-loop
+byte-requires c κs = let w = well-formed _ (c .before .before .pre) .header .long in omega arith
+
 loop-holds : tie.Need-loop-holds Inv-loop μ-loop
-loop-holds c = (
-  c .before .before .pre,
-  c .count .ensures .0,
-  record { long = search needs; within = search needs; passed = λ i h. absurd (omega arith); split = λ k h. absurd (omega arith) },
-)
+loop-holds c =
+    let k = c .before .before .before in
+    let w = well-formed _ (k .pre) .header .vertices-high in
+    (k .pre, c .before .count .ensures .0, c .byte .ensures .0, omega (arith, w, c .byte .ensures .0), rows-none (k .args .body .now) (c .before .count .result))
 
 past-requires : tie.Need-past-requires Inv-loop μ-loop
 past-requires c κs =
     let i = c .before .loop .inv in
-    (i .0, i .1, i .2 .within, i .2 .passed)
+    (i .0, i .1, i .4 .within, i .4 .passed)
 
 mul-rows : tie.Need-mul-rows Inv-loop μ-loop
 mul-rows c = search needs
@@ -46,10 +48,10 @@ loop-less c = search needs
 loop-again : tie.Need-loop-again Inv-loop μ-loop
 loop-again c =
     let i = c .before .before .loop .inv in
-    (i .0, i .1, rows-more (i .2) (omega arith) (c .past .ensures))
+    (i .0, i .1, i .2, i .3, rows-more (i .4) (omega arith) (c .past .ensures))
 
 returns : tie.Need-returns Inv-loop μ-loop
-returns c = rows-all (c .before .loop .inv .1) (c .before .loop .inv .2) (c .loop-test .left)
+returns c = let i = c .before .loop .inv in rows-all (well-formed _ (i .0)) (i .1) (i .4) (omega (arith, i .2, c .loop-test .left))
 
 pub rows-spec : {M : Type 1} → statement M
 rows-spec =
@@ -58,6 +60,7 @@ rows-spec =
     Inv-loop
     μ-loop
     count-requires
+    byte-requires
     loop-holds
     past-requires
     mul-rows

@@ -2,7 +2,7 @@ use mathlib.Core.Path.{_≡_}
 use Prim.Native.Nat.{_-_, _≤_}
 use native.Mathlib.Omega.{arith}
 use borrow.Author.Needs.{needs}
-use Rattle.chart.specs.Tabled.{Marks}
+use Rattle.chart.specs.Marks.{Marks}
 use Rattle.chart.proofs.Marking.{marks-none, marks-more}
 use Rattle.chart.proofs.set_marks.Statement.{statement}
 use Rattle.chart.proofs.set_marks.Tie as tie

@@ -1,10 +1,20 @@
-use Rattle.chart.proofs.Searches.{jumps-law}
+use mathlib.Core.Path.{sym}
+use mathlib.Core.Bool.{false≢true}
+use borrow.Author.Tests.{not-true}
+use Rattle.theory.proofs.Tests.{not-so}
+use native.Mathlib.Omega.{arith}
 use borrow.Author.Needs.{needs}
 use Rattle.chart.proofs.sets.jumps.Statement.{statement}
 use Rattle.chart.proofs.sets.jumps.Tie as tie
 
-holds-requires : tie.Need-holds-requires
-holds-requires c κs = search needs
+returns : tie.Need-returns
+returns c = λ h. absurd (false≢true h)
+
+returns-2 : tie.Need-returns-2
+returns-2 c = λ h. absurd (false≢true h)
+
+returns-3 : tie.Need-returns-3
+returns-3 c = λ h. absurd (false≢true h)
 
 mul-holds : tie.Need-mul-holds
 mul-holds c = search needs
@@ -27,17 +37,19 @@ mul-holds-4 c = search needs
 element-copy-out-holds-2 : tie.Need-element-copy-out-holds-2
 element-copy-out-holds-2 c = search needs
 
-holds-requires-2 : tie.Need-holds-requires-2
-holds-requires-2 c κs = search needs
+holds-requires : tie.Need-holds-requires
+holds-requires c κs = search needs
 
-returns : tie.Need-returns
-returns c = let k = c .before .before .before .before in jumps-law (k .args .after .now) (k .args .known0) (k .args .known1) (k .args .stop) (k .args .w) (c .before .before .before .holds .result) (c .holds2 .result) (c .before .before .before .holds .ensures) (c .holds2 .ensures)
+returns-4 : tie.Need-returns-4
+returns-4 c = λ h. record { above = omega arith; below = omega arith; apart = λ e. c .before .before .before .if3 .left (sym e); never = not-so (c .holds .ensures) (not-true _ h) }
 
 pub jumps-spec : {M : Type 1} → statement M
 jumps-spec =
     tie.close
     (tie.spec
-    holds-requires
+    returns
+    returns-2
+    returns-3
     mul-holds
     mul-holds-2
     element-copy-out-holds
@@ -45,5 +57,5 @@ jumps-spec =
     add-holds
     mul-holds-4
     element-copy-out-holds-2
-    holds-requires-2
-    returns)
+    holds-requires
+    returns-4)

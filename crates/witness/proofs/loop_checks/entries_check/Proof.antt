@@ -2,26 +2,25 @@ use mathlib.Core.Path.{refl, subst}
 use Prim.Native.Nat.{_-_}
 use native.Mathlib.Omega.{arith}
 use Rattle.bits.specs.Bits.{Bytes}
+use Rattle.bits.specs.Tables.{Table}
+use Rattle.bits.proofs.Tables.{gained}
 use Rattle.chart.specs.Bodies.{WellFormed}
 use Rattle.chart.specs.Steps.{StepsOf}
 use Rattle.chart.proofs.Checks.{well-formed}
-use Rattle.witness.specs.Given.{Shared}
 use Rattle.witness.specs.Loops.{LoopSaid}
-use Rattle.witness.specs.Tables.{Table}
 use Rattle.witness.proofs.Given.{loop-next, loop-targets}
-use Rattle.witness.proofs.Loops.{VertexTo, vertex-begin, vertex-more, vertex-small, vertex-end, vertex-stop}
-use Rattle.witness.proofs.Reaching.{shared-none}
+use Rattle.witness.proofs.Loops.{VertexTo, vertex-begin, vertex-more, vertex-end, vertex-stop}
+use Rattle.witness.proofs.Reaching.{known-after}
 use Rattle.witness.proofs.Seen.{Levels, Targets}
-use Rattle.witness.proofs.Sets.{gained}
 use borrow.Author.Needs.{needs}
 use Rattle.witness.proofs.loop_checks.entries_check.Statement.{statement}
 use Rattle.witness.proofs.loop_checks.entries_check.Tie as tie
 
 abbrev Inv-loop : tie.InvT-loop
-Inv-loop body labels rows branches origins entries high v levels targets s₀ number₀ level₀ s number level = WellFormed body × Bytes labels × Table 2 (Levels (StepsOf body labels) v) levels × Table 256 (Targets (StepsOf body labels) v) targets × Shared (StepsOf body labels) v s × VertexTo body labels v number level
+Inv-loop body labels rows branches after entries low high n v all0 all1 levels targets level₀ level = WellFormed body × Bytes labels × Table 2 (Levels (StepsOf body labels) v) levels × Table 256 (Targets (StepsOf body labels) v) targets × VertexTo (StepsOf body labels) v level
 
 abbrev μ-loop : tie.MeasureT-loop
-μ-loop body labels rows branches origins entries high v levels targets s₀ number₀ level₀ s number level = 256 - level
+μ-loop body labels rows branches after entries low high n v all0 all1 levels targets level₀ level = 256 - level
 
 slice-aggregate-sort-entries : tie.Need-slice-aggregate-sort-entries Inv-loop μ-loop
 slice-aggregate-sort-entries c = search needs
@@ -38,14 +37,10 @@ next-level-requires c κs = (c .before .before .before .sort-entries .ensures .0
 loop-holds : tie.Need-loop-holds Inv-loop μ-loop
 loop-holds c =
     let a = c .before .before .before .before .before .before .before .before .before .args in
-    let w = well-formed _ (c .before .before .before .before .before .before .before .before .before .pre .0 .passed) in
     let k : Bytes (a .labels .now) = λ k. omega (arith, c .before .before .before .before .before .before .before .shared-slice-known2 .given k) in
     let g = c .before .before .before .before .sort-entries .ensures in
     let t = gained {P = Levels (StepsOf (a .body .now) (a .labels .now)) (a .v)} 2 4 refl (g .0) in
-    (w, k, t, gained {P = Targets (StepsOf (a .body .now) (a .labels .now)) (a .v)} 256 512 refl (g .1), shared-none, vertex-begin w k _ (loop-next t (c .next-level .ensures)))
-
-share-requires : tie.Need-share-requires Inv-loop μ-loop
-share-requires c κs = let p = c .before .before .before .before .before .before .before .before .before .before .before .pre in (p .1 .of-branches .long, p .1 .of-origins .long, p .1 .of-entries .long, p .2)
+    (well-formed _ (c .before .before .before .before .before .before .before .before .before .pre .0 .passed), k, t, gained {P = Targets (StepsOf (a .body .now) (a .labels .now)) (a .v)} 256 512 refl (g .1), vertex-begin (loop-next t (c .next-level .ensures)))
 
 mul-lo : tie.Need-mul-lo Inv-loop μ-loop
 mul-lo c = search needs
@@ -54,7 +49,7 @@ mul-lo-2 : tie.Need-mul-lo-2 Inv-loop μ-loop
 mul-lo-2 c = search needs
 
 array-read-lo : tie.Need-array-read-lo Inv-loop μ-loop
-array-read-lo c = let t = c .before .before .loop .inv .3 .long in omega arith
+array-read-lo c = let t = c .before .loop .inv .3 .long in omega arith
 
 mul-hi : tie.Need-mul-hi Inv-loop μ-loop
 mul-hi c = search needs
@@ -66,46 +61,41 @@ mul-hi-2 : tie.Need-mul-hi-2 Inv-loop μ-loop
 mul-hi-2 c = search needs
 
 array-read-hi : tie.Need-array-read-hi Inv-loop μ-loop
-array-read-hi c = let t = c .before .before .loop .inv .3 .long in omega arith
+array-read-hi c = let t = c .before .loop .inv .3 .long in omega arith
 
-quick-check-requires : tie.Need-quick-check-requires Inv-loop μ-loop
-quick-check-requires c κs = let p = c .before .before .before .before .before .before .before .before .before .before .before .before .pre in (p .1 .of-branches .long, p .1 .of-levels .long, p .2, c .before .loop-test .taken)
-
-enum-known-place : tie.Need-enum-known-place Inv-loop μ-loop
-enum-known-place c = search needs
-
-returns : tie.Need-returns Inv-loop μ-loop
-returns c =
-    let p = c .before .before .before .before .before .before .before .before .before .before .before .before .before .before .before .before .pre in
-    let i = c .before .before .before .before .before .before .loop .inv in
-    let l = c .before .before .before .before .before .loop-test .taken in
-    let h = c .before .before .before .before .share .ensures _ _ _ (i .0) (p .1) (i .4) in
-    let said = c .before .before .before .quick-check .ensures _ _ _ _ (i .0) (p .1) h (i .5 .low) (loop-targets (i .3) (i .5 .low) l) in
-    vertex-stop (i .5) l (subst (LoopSaid _ _ _) (c .before .place .given .1) said)
+loop-check-requires : tie.Need-loop-check-requires Inv-loop μ-loop
+loop-check-requires c κs = let p = c .before .before .before .before .before .before .before .before .before .before .before .pre in let i = c .before .loop .inv in (p .1 .of-branches .long, p .1 .of-after .long, p .1 .of-levels .long, p .2, c .loop-test .taken, rw (p .4) (known-after (i .0) (p .1 .of-branches) (p .1 .of-after)))
 
 enum-told : tie.Need-enum-told Inv-loop μ-loop
 enum-told c = search needs
 
-add-number : tie.Need-add-number Inv-loop μ-loop
-add-number c = let s = vertex-small (c .before .before .before .before .before .loop .inv .5) in omega arith
+enum-told-2 : tie.Need-enum-told-2 Inv-loop μ-loop
+enum-told-2 c = search needs
+
+returns : tie.Need-returns Inv-loop μ-loop
+returns c =
+    let p = c .before .before .before .before .before .before .before .before .before .before .before .before .before .before .pre in
+    let i = c .before .before .before .before .loop .inv in
+    let l = c .before .before .before .loop-test .taken in
+    let said = c .before .before .loop-check .ensures _ _ _ _ (i .0) (p .1) (i .4 .low) (loop-targets (i .3) (i .4 .low) l) (p .3) in
+    vertex-stop (c .enum-told2 .given .1) (i .4) l said
 
 next-level-requires-2 : tie.Need-next-level-requires-2 Inv-loop μ-loop
-next-level-requires-2 c κs = (c .before .before .before .before .before .before .loop .inv .2 .long, c .before .before .before .before .before .loop-test .taken)
+next-level-requires-2 c κs = (c .before .before .before .before .before .loop .inv .2 .long, c .before .before .before .before .loop-test .taken)
 
 loop-less : tie.Need-loop-less Inv-loop μ-loop
 loop-less c = omega (arith, c .next-level2 .ensures .above)
 
 loop-again : tie.Need-loop-again Inv-loop μ-loop
 loop-again c =
-    let p = c .before .before .before .before .before .before .before .before .before .before .before .before .before .before .before .before .before .pre in
-    let i = c .before .before .before .before .before .before .before .loop .inv in
-    let l = c .before .before .before .before .before .before .loop-test .taken in
-    let h = c .before .before .before .before .before .share .ensures _ _ _ (i .0) (p .1) (i .4) in
-    let said = c .before .before .before .before .quick-check .ensures _ _ _ _ (i .0) (p .1) h (i .5 .low) (loop-targets (i .3) (i .5 .low) l) in
-    (i .0, i .1, i .2, i .3, h, vertex-more (i .0) (i .1) _ (i .5) l (subst (LoopSaid _ _ _) (c .before .before .enum-told .given .1) said) (loop-next (i .2) (c .next-level2 .ensures)))
+    let p = c .before .before .before .before .before .before .before .before .before .before .before .before .before .before .before .before .pre in
+    let i = c .before .before .before .before .before .before .loop .inv in
+    let l = c .before .before .before .before .before .loop-test .taken in
+    let said = c .before .before .before .before .loop-check .ensures _ _ _ _ (i .0) (p .1) (i .4 .low) (loop-targets (i .3) (i .4 .low) l) (p .3) in
+    (i .0, i .1, i .2, i .3, vertex-more (i .4) (subst (LoopSaid _ _ _) (c .before .before .enum-told .given .1) said) (loop-next (i .2) (c .next-level2 .ensures)))
 
 returns-2 : tie.Need-returns-2 Inv-loop μ-loop
-returns-2 c = let i = c .before .loop .inv in vertex-end (i .5) (i .0) (i .1) (c .loop-test .left)
+returns-2 c = let i = c .before .loop .inv in vertex-end (i .0) (i .1) (i .4) (c .loop-test .left)
 
 pub entries-check-spec : {M : Type 1} → statement M
 entries-check-spec =
@@ -118,7 +108,6 @@ entries-check-spec =
     sort-entries-requires
     next-level-requires
     loop-holds
-    share-requires
     mul-lo
     mul-lo-2
     array-read-lo
@@ -126,11 +115,10 @@ entries-check-spec =
     add-hi
     mul-hi-2
     array-read-hi
-    quick-check-requires
-    enum-known-place
-    returns
+    loop-check-requires
     enum-told
-    add-number
+    enum-told-2
+    returns
     next-level-requires-2
     loop-less
     loop-again

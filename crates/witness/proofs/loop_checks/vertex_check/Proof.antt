@@ -1,38 +1,97 @@
+use mathlib.Core.Path.{refl}
 use native.Mathlib.Omega.{arith}
-use borrow.Author.Tests.{not-true}
-use Rattle.theory.proofs.Tests.{not-so}
 use Rattle.chart.proofs.Checks.{well-formed}
-use Rattle.witness.proofs.Given.{no-loop}
-use Rattle.witness.proofs.Loops.{vertex-none}
+use Rattle.witness.proofs.Reaching.{whole-set}
+use Rattle.witness.proofs.Loops.{vertex-none, vertex-passes}
 use borrow.Author.Needs.{needs}
 use Rattle.witness.proofs.loop_checks.vertex_check.Statement.{statement}
 use Rattle.witness.proofs.loop_checks.vertex_check.Tie as tie
 
-element-copy-out-holds : tie.Need-element-copy-out-holds
-element-copy-out-holds c = let h = c .before .before .pre .1 .of-levels .long in omega arith
+mul-level : tie.Need-mul-level
+mul-level c = search needs
 
-element-copy-out-holds-2 : tie.Need-element-copy-out-holds-2
-element-copy-out-holds-2 c = let h = c .before .before .before .pre .1 .of-levels .long in omega arith
-
-holds-requires : tie.Need-holds-requires
-holds-requires c κs = search needs
+element-copy-out-level : tie.Need-element-copy-out-level
+element-copy-out-level c = search needs
 
 returns : tie.Need-returns
-returns c = vertex-none (well-formed _ (c .before .before .before .before .before .before .pre .0 .passed)) (λ k. omega (arith, c .before .before .before .before .shared-slice-known2 .given k)) (no-loop (c .before .before .before .before .before .before .pre .1) (c .before .before .before .before .before .before .pre .2) (not-so (c .before .holds .ensures) (not-true _ (c .if1 .taken))))
+returns c = let p = c .before .before .before .before .pre in vertex-none (well-formed _ (p .0 .passed)) (p .1) (p .2) (λ k. omega (arith, c .before .before .shared-slice-known2 .given k)) (c .if1 .taken)
 
-entries-check-requires : tie.Need-entries-check-requires
-entries-check-requires c κs = search needs
+mul-closure : tie.Need-mul-closure
+mul-closure c = search needs
+
+mul-closure-2 : tie.Need-mul-closure-2
+mul-closure-2 c = search needs
+
+element-copy-out-closure : tie.Need-element-copy-out-closure
+element-copy-out-closure c = search needs
+
+mul-closure-3 : tie.Need-mul-closure-3
+mul-closure-3 c = search needs
+
+add-closure : tie.Need-add-closure
+add-closure c = search needs
+
+mul-closure-4 : tie.Need-mul-closure-4
+mul-closure-4 c = search needs
+
+element-copy-out-closure-2 : tie.Need-element-copy-out-closure-2
+element-copy-out-closure-2 c = search needs
+
+closure-requires : tie.Need-closure-requires
+closure-requires c κs = search needs
+
+array-read-pass-at-once : tie.Need-array-read-pass-at-once
+array-read-pass-at-once c = search needs
+
+array-read-pass-at-once-2 : tie.Need-array-read-pass-at-once-2
+array-read-pass-at-once-2 c = search needs
+
+pass-at-once-requires : tie.Need-pass-at-once-requires
+pass-at-once-requires c κs = search needs
 
 returns-2 : tie.Need-returns-2
-returns-2 c = search needs
+returns-2 c =
+    let p = c .before .before .before .before .before .before .before .before .before .pre in
+    let w = well-formed _ (p .0 .passed) in
+    let (b, a) = c .before .pass-at-once .ensures (c .if2 .taken) in
+    vertex-passes w (p .1) (p .2) (whole-set w (p .1) (p .2) (c .before .before .closure .ensures)) refl (c .before .before .before .before .before .if1 .left) b a
+
+byte-requires : tie.Need-byte-requires
+byte-requires c κs = let p = c .before .before .before .before .before .before .before .before .before .pre in let w = well-formed _ (p .0 .passed) .header .long in omega arith
+
+array-read-entries-check : tie.Need-array-read-entries-check
+array-read-entries-check c = search needs
+
+array-read-entries-check-2 : tie.Need-array-read-entries-check-2
+array-read-entries-check-2 c = search needs
+
+entries-check-requires : tie.Need-entries-check-requires
+entries-check-requires c κs = let p = c .before .before .before .before .before .before .before .before .before .before .pre in (p .0, p .1, p .2, whole-set (well-formed _ (p .0 .passed)) (p .1) (p .2) (c .before .before .before .closure .ensures), c .byte .ensures .0)
+
+returns-3 : tie.Need-returns-3
+returns-3 c = search needs
 
 pub vertex-check-spec : {M : Type 1} → statement M
 vertex-check-spec =
     tie.close
     (tie.spec
-    element-copy-out-holds
-    element-copy-out-holds-2
-    holds-requires
+    mul-level
+    element-copy-out-level
     returns
+    mul-closure
+    mul-closure-2
+    element-copy-out-closure
+    mul-closure-3
+    add-closure
+    mul-closure-4
+    element-copy-out-closure-2
+    closure-requires
+    array-read-pass-at-once
+    array-read-pass-at-once-2
+    pass-at-once-requires
+    returns-2
+    byte-requires
+    array-read-entries-check
+    array-read-entries-check-2
     entries-check-requires
-    returns-2)
+    returns-3)

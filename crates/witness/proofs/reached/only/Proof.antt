@@ -1,4 +1,4 @@
-use Rattle.witness.proofs.Sets.{members-one}
+use Rattle.bits.proofs.Tables.{members-one}
 use borrow.Author.Needs.{needs}
 use Rattle.witness.proofs.reached.only.Statement.{statement}
 use Rattle.witness.proofs.reached.only.Tie as tie

@@ -13,8 +13,7 @@ use Rattle.theory.proofs.Tests.{not-so}
 use Rattle.chart.specs.Steps.{StepsOf}
 use Rattle.chart.specs.Bodies.{verticesOf, startOf, WellFormed}
 use Rattle.chart.proofs.Checks.{well-formed}
-use Rattle.chart.proofs.Searches.{known-none}
-use Rattle.witness.specs.Tables.{Members, Table}
+use Rattle.bits.specs.Tables.{Members, Table}
 use Rattle.witness.proofs.Reaching.{members-reached, unreached-here, unreached-none}
 use borrow.Author.Needs.{needs}
 use Rattle.witness.proofs.reached.unreached.Statement.{statement}
@@ -42,7 +41,7 @@ array-read-closure-2 : tie.Need-array-read-closure-2 Inv-loop μ-loop
 array-read-closure-2 c = search needs
 
 closure-requires : tie.Need-closure-requires Inv-loop μ-loop
-closure-requires c κs = let l = c .before .before .before .before .pre .1 in (l, l, known-none _ _)
+closure-requires c κs = c .before .before .before .before .pre .1
 
 loop-holds : tie.Need-loop-holds Inv-loop μ-loop
 loop-holds c = let w = well-formed _ (c .before .before .before .before .before .pre .0) in (

@@ -1,8 +1,9 @@
 use mathlib.Core.Path.{_≡_}
-use Prim.Native.Nat.{_≤_, _-_, _+_}
+use Prim.Native.Nat.{_≤_, _-_}
 use native.Mathlib.Omega.{arith}
 use lib.ListN.{length}
-use Rattle.witness.specs.Tables.{Gains}
+use Rattle.bits.specs.Tables.{Gains}
+use Rattle.bits.proofs.Tables.{gains-join}
 use Rattle.witness.proofs.Sets.{Later, later-none, later-more, later-all}
 use borrow.Author.Needs.{needs}
 use Rattle.witness.proofs.tables.join_later.Statement.{statement}
@@ -17,23 +18,41 @@ abbrev μ-loop : tie.MeasureT-loop
 loop-holds : tie.Need-loop-holds Inv-loop μ-loop
 loop-holds c = (c .before .pre, omega arith, later-none)
 
+mul-lo : tie.Need-mul-lo Inv-loop μ-loop
+mul-lo c = search needs
+
+mul-lo-2 : tie.Need-mul-lo-2 Inv-loop μ-loop
+mul-lo-2 c = search needs
+
+slice-read-lo : tie.Need-slice-read-lo Inv-loop μ-loop
+slice-read-lo c = let i = c .before .before .loop .inv in omega (arith, i .0, i .2 .long)
+
+mul-hi : tie.Need-mul-hi Inv-loop μ-loop
+mul-hi c = search needs
+
+add-hi : tie.Need-add-hi Inv-loop μ-loop
+add-hi c = search needs
+
+mul-hi-2 : tie.Need-mul-hi-2 Inv-loop μ-loop
+mul-hi-2 c = search needs
+
+slice-read-hi : tie.Need-slice-read-hi Inv-loop μ-loop
+slice-read-hi c = let i = c .before .before .before .loop .inv in omega (arith, i .0, i .2 .long)
+
 sub-l : tie.Need-sub-l Inv-loop μ-loop
 sub-l c = search needs
 
-add-join : tie.Need-add-join Inv-loop μ-loop
-add-join c = search needs
-
 join-requires : tie.Need-join-requires Inv-loop μ-loop
-join-requires c κs = let g = c .before .before .loop .inv .2 .long in (omega arith, omega arith)
+join-requires c κs = let i = c .before .before .before .before .loop .inv in omega (arith, i .0, i .2 .long)
 
 loop-less : tie.Need-loop-less Inv-loop μ-loop
 loop-less c = search needs
 
 loop-again : tie.Need-loop-again Inv-loop μ-loop
 loop-again c =
-    let i = c .before .before .before .before .before .loop .inv in
-    let e : c .before .before .before .before .before .loop .l - 1 + 1 ≡ c .before .before .before .before .before .loop .l = omega arith in
-    (i .0, omega arith, later-more (c .before .before .before .before .before .loop .l - 1) (c .before .before .before .before .before .loop .l) (omega arith) (omega arith) (i .0) (i .2) (rw e at (c .before .before .join .ensures)))
+    let l = c .before .before .before .before .before .before .before .loop in
+    let i = l .inv in
+    (i .0, omega arith, later-more (l .l - 1) (l .l) (omega arith) (omega arith) (i .0) (i .2) (gains-join (c .before .before .join .ensures)))
 
 same-length : tie.Need-same-length Inv-loop μ-loop
 same-length c = c .before .loop .inv .2 .long
@@ -48,8 +67,14 @@ join-later-spec =
     Inv-loop
     μ-loop
     loop-holds
+    mul-lo
+    mul-lo-2
+    slice-read-lo
+    mul-hi
+    add-hi
+    mul-hi-2
+    slice-read-hi
     sub-l
-    add-join
     join-requires
     loop-less
     loop-again

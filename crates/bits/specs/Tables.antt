@@ -1,17 +1,17 @@
--- Sets of vertices, two words each: single ones, and tables of them.
+-- Sets of the numbers below 128, two words each: single ones, and tables of them.
 use Prim.Native.Nat.{ℕ, _+_, _*_, _≤_, _<_}
 use mathlib.Core.Path.{_≡_}
 use mathlib.Core.Logic.{_⊎_, _↔_}
 use mathlib.Core.List.{List}
 use lib.ListN.{length, getD}
 use Rattle.bits.specs.Words.{Has, HasRow}
 
--- the two words of r have the vertices of P
+-- the two words of r have the numbers of P
 pub record Members (P : ℕ → Type 0) (r : List ℕ) : Type 0 where
   pub long : length r ≡ 2
   pub exactly : (w : ℕ) → w < 128 → Has (getD r 0 0) (getD r 1 0) w ↔ P w
 
--- a has n sets, and set x has the vertices y with P x y
+-- a has n sets, and set x has the numbers y with P x y
 pub record Table (n : ℕ) (P : ℕ → ℕ → Type 0) (a : List ℕ) : Type 0 where
   pub long : length a ≡ 2 * n
   pub exactly : (x y : ℕ) → x < n → y < 128 → HasRow a x y ↔ P x y
