@@ -201,7 +201,7 @@ module _ (s : List ℕ) (w : WellFormed s) (keys : List ℕ) (m : ℕ) (ranks : 
   leaf-rank j a h e = go (ltb (getD ranks j 0) m) refl
     where
       r : RankOf keys m (keyOf s j) (getD ranks j 0)
-      r = ranked .each j h
+      r = ranked .each j h .is-rank a e
 
       found : (i : ℕ) × (i < length (take m keys)) × (getD (take m keys) i 0 ≡ keyOf s j)
       found = mem-at (keyOf s j) (take m keys) (rw (keyed .are) (sort← ltb ltb-order (keyOf s j) (leafKeys s (count s)) (leaf-key s (count s) j a h e)))
