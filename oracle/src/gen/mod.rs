@@ -70,32 +70,20 @@ pub fn accepted(seed: u64) -> Yard {
 }
 
 fn some_yard(rng: &mut Rng) -> Yard {
-    let shape = match rng.below(100) {
-        0..=34 => {
-            let leaves = rng.between(1, 7);
-            expressions::random(rng, leaves)
-        }
-        35..=64 => {
-            let leaves = rng.between(6, 16);
-            expressions::random(rng, leaves)
-        }
-        65..=79 => {
-            let leaves = rng.between(14, 34);
-            expressions::random(rng, leaves)
-        }
-        82..=85 => {
-            let leaves = rng.between(34, 64);
-            expressions::random(rng, leaves)
-        }
-        86..=95 => {
-            let depth = rng.between(1, 8);
-            expressions::nested_stars(rng, depth)
-        }
-        96..=97 => {
-            let depth = rng.between(8, 62);
-            expressions::nested_stars(rng, depth)
-        }
+    let (nested, least, most) = match rng.below(100) {
+        0..=34 => (false, 1, 7),
+        35..=64 => (false, 6, 16),
+        65..=79 => (false, 14, 34),
+        82..=85 => (false, 34, 64),
+        86..=95 => (true, 1, 8),
+        96..=97 => (true, 8, 62),
         _ => return worst::some(rng),
+    };
+    let size = rng.between(least, most);
+    let shape = if nested {
+        expressions::nested_stars(rng, size)
+    } else {
+        expressions::random(rng, size)
     };
     yard_of(rng, &shape)
 }

@@ -123,6 +123,39 @@ fn loops_with_a_tail(actions: u8, tail: usize, starts: usize) -> Yard {
     yard(&forever(actions), top + 1, top, labelled)
 }
 
+/// Checks 34 and 35 with loops that have little in common: a path of `tail`
+/// vertices, each with loops above those of the next; at each other vertex a
+/// loop just above each of these, with the path from there on in its body.
+pub fn own_bodies() -> Yard {
+    loops_along_a_path(48, 60)
+}
+
+fn loops_along_a_path(tail: u8, starts: usize) -> Yard {
+    let mut labelled = Labelled::new();
+    for at in 1..=tail {
+        let v = at as usize;
+        for action in 1..=tail {
+            labelled.insert(step(v, action, v), 2 * at);
+        }
+        if v > 1 {
+            labelled.remove(&step(v, 1, v));
+            labelled.insert(step(v, 1, v - 1), 0);
+        }
+    }
+    let first = tail as usize + 1;
+    let top = tail as usize + starts;
+    for v in first..=top {
+        for at in 1..=tail {
+            labelled.insert(step(v, at, v), 2 * at + 1);
+            labelled.insert(step(v, at, at as usize), 2 * at + 1);
+        }
+        if v > first {
+            labelled.insert(step(v, 1, v - 1), 0);
+        }
+    }
+    yard(&forever(tail), top + 1, top, labelled)
+}
+
 /// Most loops: each of 127 vertices goes round by itself at 62 or 63 levels.
 pub fn most_loops() -> Yard {
     rounds(63, 127)
@@ -166,9 +199,14 @@ fn path(actions: u8, top: usize, entries_an_action: usize) -> Yard {
     yard(&forever(actions), top + 1, top, labelled)
 }
 
+/// As many layers, as wide, as there is room for.
+pub fn wide_layers() -> Yard {
+    layers(11, 12, 5)
+}
+
 /// Layers in which every vertex has every action of its layer to every vertex
 /// of the next; no loops.
-pub fn layers(depth: usize, width: usize, actions: u8) -> Yard {
+fn layers(depth: usize, width: usize, actions: u8) -> Yard {
     let one = || Shape::sum_of_actions(actions);
     let shape = (1..depth).fold(one(), |after, _| Shape::product(one(), after));
     let mut labelled = Labelled::new();
@@ -218,33 +256,30 @@ pub fn deepest_nest() -> Yard {
     }
 }
 
+/// The named files.
+const NAMED: [(&str, fn() -> Yard); 8] = [
+    ("many vertices", many_vertices),
+    ("thousands of loops", thousands_of_loops),
+    ("own bodies", own_bodies),
+    ("most loops", most_loops),
+    ("full relation", full_relation),
+    ("longest body", longest_body),
+    ("wide layers", wide_layers),
+    ("deepest nest", deepest_nest),
+];
+
 /// All named files, with their names.
 pub fn all() -> Vec<(&'static str, Yard)> {
-    vec![
-        ("many vertices", many_vertices()),
-        ("thousands of loops", thousands_of_loops()),
-        ("most loops", most_loops()),
-        ("full relation", full_relation()),
-        ("longest body", longest_body()),
-        ("wide layers", layers(11, 12, 5)),
-        ("deepest nest", deepest_nest()),
-    ]
+    NAMED.map(|(name, yard)| (name, yard())).to_vec()
 }
 
 /// One of these families, mostly smaller.
 pub(super) fn some(rng: &mut Rng) -> Yard {
     if rng.percent(25) {
-        return match rng.below(7) {
-            0 => many_vertices(),
-            1 => thousands_of_loops(),
-            2 => most_loops(),
-            3 => full_relation(),
-            4 => longest_body(),
-            5 => layers(11, 12, 5),
-            _ => deepest_nest(),
-        };
+        let (_, yard) = NAMED[rng.below(NAMED.len())];
+        return yard();
     }
-    match rng.below(5) {
+    match rng.below(6) {
         0 => {
             let top = rng.between(2, 40);
             let entries = rng.between(1, top);
@@ -254,8 +289,9 @@ pub(super) fn some(rng: &mut Rng) -> Yard {
             let (tail, starts) = (rng.between(2, 12), rng.between(1, 12));
             loops_with_a_tail(rng.between(2, 20) as u8, tail, starts)
         }
-        2 => rounds(rng.between(2, 40) as u8, rng.between(2, 30)),
-        3 => path(
+        2 => loops_along_a_path(rng.between(1, 12) as u8, rng.between(1, 12)),
+        3 => rounds(rng.between(2, 40) as u8, rng.between(2, 30)),
+        4 => path(
             rng.between(1, 12) as u8,
             rng.between(3, 40),
             rng.between(1, 3),
