@@ -47,6 +47,21 @@ fn with_last_action(mut yard: Yard, action: u8) -> Yard {
     yard
 }
 
+/// The yard with a row of its relation emptied: the one by which 44 refuses the latest pair.
+fn with_empty_row(yard: Yard) -> Yard {
+    // The last row is the start's, which 42 asks for.
+    let rows = yard.relation.len() / 16 - 1;
+    let emptied = (1..rows).map(|u| {
+        let mut changed = yard.clone();
+        changed.relation[16 * u..16 * u + 16].fill(0);
+        let answer = fast::check(&changed.file());
+        (answer, changed)
+    });
+    let refused = emptied.filter(|(answer, _)| answer.n == 44);
+    let (_, latest) = refused.max_by_key(|(answer, _)| answer.p).expect("some");
+    latest
+}
+
 /// Files at document 01's limits: accepted ones, each hard on one stage, and some that are refused
 /// at the end of such a stage.
 fn named() -> Vec<(String, Vec<u8>)> {
@@ -59,6 +74,12 @@ fn named() -> Vec<(String, Vec<u8>)> {
         "refused 33",
         with_transition(worst::thousands_of_loops(), [103, 48, 1], 255),
     ));
+    // The last loop of that file is (103, 49).
+    for (name, to) in [("refused 34", 0), ("refused 35", 102)] {
+        let more = with_transition(worst::thousands_of_loops(), [103, 48, to], 49);
+        yards.push((name, more));
+    }
+    yards.push(("refused 44", with_empty_row(worst::full_relation())));
     yards.push(("refused 45", with_last_action(worst::full_relation(), 2)));
     yards
         .into_iter()
@@ -84,7 +105,10 @@ fn rounds(check: Check, files: &[Vec<u8>]) -> u32 {
 
 fn row(name: &str, files: &[Vec<u8>]) {
     for file in files {
-        assert!(proved(file) == fast::check(file), "{name}: the answers differ");
+        assert!(
+            proved(file) == fast::check(file),
+            "{name}: the answers differ"
+        );
     }
     let (ours, theirs) = (rounds(proved, files), rounds(fast::check, files));
     let mut ratios = Vec::new();
