@@ -22,8 +22,11 @@ pub ⊎-map : {A B C D : Type 0} → (A → C) → (B → D) → A ⊎ B → C �
 ⊎-map f g (inr b) = inr (g b)
 
 -- WHAT COMES INTO A TABLE
+pub gains-nothing : {P : ℕ → ℕ → Type 0} {a : List ℕ} → ((x y : ℕ) → y < 128 → ¬ P x y) → Gains P a a
+gains-nothing f = record { long = refl; exactly = λ x y h l. (inl, ⊎-elim (λ g. g) (λ p. absurd (f x y l p))) }
+
 pub gains-none : {P : ℕ → ℕ → Type 0} {a : List ℕ} → ((x y : ℕ) → ¬ P x y) → Gains P a a
-gains-none f = record { long = refl; exactly = λ x y h l. (inl, ⊎-elim (λ g. g) (λ p. absurd (f x y p))) }
+gains-none f = gains-nothing (λ x y l. f x y)
 
 pub gains-insert : {C : Type 0} {a r : List ℕ} {v w : ℕ} → C → Inserted a v w r → Gains (When C v w) a r
 gains-insert c I = record {

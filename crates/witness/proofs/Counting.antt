@@ -62,9 +62,23 @@ module _ (p : ℕ → ℕ → Bool) where
   unfolding pairsFrom
   rows-one columns n u h = rw (remains n u h) (length-append (rowPairs p u 0 columns) (pairsFrom p columns (suc u) (n - suc u)))
 
-  pub rows-end : (columns n u : ℕ) → n ≤ u → rowsFrom columns n u ≡ 0
+  -- where no column passes, in one row and in all rows from u on
+  row-none : (u n v : ℕ) → ((c : ℕ) → v ≤ c → c < v + n → p u c ≡ false) → length (rowPairs p u v n) ≡ 0
+  unfolding rowPairs
+  row-none u zero v f = refl
+  row-none u (suc n) v f = no-more u v n (f v (omega arith) (omega arith)) ∙ row-none u n (suc v) (λ c a b. f c (omega arith) (omega arith))
+
+  none-from : (columns k u : ℕ) → ((r c : ℕ) → u ≤ r → r < u + k → c < columns → p r c ≡ false) → length (pairsFrom p columns u k) ≡ 0
   unfolding pairsFrom
-  rows-end columns n u h = let e : n - u ≡ 0 = omega arith in rw e
+  none-from columns zero u f = refl
+  none-from columns (suc k) u f =
+      let a = length-append (rowPairs p u 0 columns) (pairsFrom p columns (suc u) k) in
+      let r = row-none u columns 0 (λ c g h. f u c (omega arith) (omega arith) (omega arith)) in
+      let s = none-from columns k (suc u) (λ r c g h i. f r c (omega arith) (omega arith) i) in
+      omega (arith, a, r, s)
+
+  pub rows-none : (columns n u : ℕ) → ((r c : ℕ) → u ≤ r → r < n → c < columns → p r c ≡ false) → rowsFrom columns n u ≡ 0
+  rows-none columns n u f = none-from columns (n - u) u (λ r c g h i. f r c g (omega arith) i)
 
 -- A LIST WITH EVERY MEMBER ONCE has one length
 abbrev Pair : Type 0

@@ -2,7 +2,7 @@
 use mathlib.Core.Path.{_≡_, subst}
 use mathlib.Core.Logic.{_⊎_, inl, inr, by-cases, _↔_}
 use mathlib.Core.List.{List}
-use Prim.Native.Nat.{ℕ, _+_, _*_, _/_, _%_, _<_}
+use Prim.Native.Nat.{ℕ, _+_, _*_, _/_, _%_, _≤_, _<_}
 use native.Mathlib.Nat.{le-refl}
 use native.Mathlib.Decide.{ℕ-discrete}
 use native.Mathlib.Omega.{arith}
@@ -12,7 +12,7 @@ use Rattle.bits.specs.Words.{Has, HasRow}
 use Rattle.theory.specs.Charts.{Loop}
 use Rattle.chart.specs.Bodies.{WellFormed}
 use Rattle.chart.specs.Steps.{StepsOf}
-use Rattle.witness.specs.Given.{Enters, EntersHigh}
+use Rattle.witness.specs.Given.{Enters, EntersHigh, NoneAbove}
 use Rattle.witness.specs.Lowest.{NextLevel}
 use Rattle.bits.specs.Tables.{Table, Gains}
 use Rattle.witness.proofs.Labellings.{loop-below}
@@ -42,3 +42,7 @@ module _ {b labels : List ℕ} {v : ℕ} where
 
   pub loop-targets : {targets : List ℕ} {level : ℕ} → Table 256 (Targets (StepsOf b labels) v) targets → 0 < level → level < 256 → (w : ℕ) → w < 128 → Has (getD targets (2 * level) 0) (getD targets (2 * level + 1) 0) w ↔ StepsOf b labels v level w
   loop-targets T a h w l = (λ g. T .exactly _ w h l .0 g .1, λ s. T .exactly _ w h l .1 (a, s))
+
+-- no vertex has an entry of a level above the highest label
+pub none-above : {b labels entered : List ℕ} {top : ℕ} → Table 256 (Enters (StepsOf b labels)) entered → ((i : ℕ) → getD labels i 0 ≤ top) → NoneAbove entered top
+none-above T h x y a l m g = let (p, w, s) = T .exactly x y l m .0 g in omega (arith, a, h (s .at), s .label)

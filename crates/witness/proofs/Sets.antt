@@ -8,14 +8,15 @@ use native.Mathlib.Omega.{arith}
 use lib.ListN.{length}
 use Rattle.bits.specs.Words.{HasRow}
 use Rattle.bits.specs.Tables.{Gains}
-use Rattle.bits.proofs.Tables.{gains-none, gains-as, gains-then}
+use Rattle.witness.specs.Given.{NoneAbove}
+use Rattle.bits.proofs.Tables.{gains-nothing, gains-as, gains-then}
 
 -- of the sets from l on
 abbrev pub Later : List ℕ → ℕ → ℕ → ℕ → Type 0
 Later a l x y = (l ≤ x) × ((m : ℕ) × (x < m) × (m < 256) × HasRow a m y)
 
-pub later-none : {a : List ℕ} → Gains (Later a 255) a a
-later-none = gains-none (λ x y (h, (m, g, l, k)). omega arith)
+pub later-none : {a : List ℕ} (top : ℕ) → NoneAbove a top → Gains (Later a top) a a
+later-none top n = gains-nothing (λ x y i (h, (m, g, l, k)). n m y (omega arith) l i k)
 
 pub later-more : {a t r : List ℕ} (l n : ℕ) → n ≡ l + 1 → n < 256 → length a ≡ 512 → Gains (Later a n) a t → Gains (λ (x y : ℕ). (x ≡ l) × HasRow t n y) t r → Gains (Later a l) a r
 later-more {a} {t} l n e h i G H = gains-then G H (λ x y g. (to x y g, from x y g))

@@ -7,7 +7,7 @@ use native.Mathlib.Omega.{arith}
 use native.Mathlib.Numerals.{add-one}
 use lib.Dec.{eqb, ltb}
 use lib.ListN.{length, getD, length-map}
-use borrow.Author.Tests.{lt-ltb, le-ltb}
+use borrow.Author.Tests.{lt-ltb, le-ltb, ne-eqb}
 use Rattle.bits.specs.Bits.{Bytes}
 use Rattle.bits.specs.Counts.{bitsBelow}
 use Rattle.bits.specs.Tables.{Table}
@@ -20,9 +20,9 @@ use Rattle.report.specs.declared.Stage.the-variants as stage
 use Rattle.chart.specs.Checks.{checkOf}
 use Rattle.chart.specs.Steps.{StepsOf}
 use Rattle.chart.proofs.Checks.{well-formed}
-use Rattle.witness.specs.Given.{Enters, sizeOf}
+use Rattle.witness.specs.Given.{Enters, NoneAbove, sizeOf}
 use Rattle.witness.specs.Labellings.{loopsOf}
-use Rattle.witness.proofs.Counting.{rowsFrom, row-split, row-bits, rows-one, rows-end}
+use Rattle.witness.proofs.Counting.{rowsFrom, row-split, row-bits, rows-one, rows-none}
 use Rattle.witness.proofs.Labellings.{loop-below, loops-number}
 
 -- whether v is in set l of a table
@@ -102,5 +102,7 @@ module _ {b labels a : List ℕ} (passed : checkOf b ≡ stage.Passed) (B : Byte
       let m = length-map (pairs (inSet a) 256 128) swap in
       omega (arith, n, m)
 
-  pub counted-all : {k n : ℕ} → 128 ≤ k → CountedTo a (2 * k) n → n ≡ loopsOf b labels
-  counted-all {k} h c = let e = rows-end (inSet a) 128 256 (2 * k) (omega arith) in omega (arith, e, c .sum, all-counted)
+  pub counted-all : (k : ℕ) {n top : ℕ} → NoneAbove a top → top < 2 * k → CountedTo a (2 * k) n → n ≡ loopsOf b labels
+  counted-all k N h c =
+      let e = rows-none (inSet a) 128 256 (2 * k) (λ l v g i j. ne-eqb _ _ (N l v (omega arith) i j)) in
+      omega (arith, e, c .sum, all-counted)

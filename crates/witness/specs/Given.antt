@@ -84,6 +84,10 @@ pub record Collected (S : Steps) (next branches entries low entered : List ℕ) 
   pub of-low : LowestLevels S low
   pub of-entered : Table 256 (Enters S) entered
 
+-- the sets of a table after set top have nothing
+abbrev pub NoneAbove : List ℕ → ℕ → Type 0
+NoneAbove a top = (x y : ℕ) → top < x → x < 256 → y < 128 → ¬ HasRow a x y
+
 -- how many numbers set l of a table has
 abbrev pub sizeOf : List ℕ → ℕ → ℕ
 sizeOf a l = bitsBelow (getD a (2 * l) 0) 64 + bitsBelow (getD a (2 * l + 1) 0) 64

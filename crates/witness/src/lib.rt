@@ -13,6 +13,7 @@ use report::Stage;
 use tables::collect;
 use tables::count_loops;
 use tables::join_later;
+use tables::top_label;
 ghost use mathlib.Core.Path.{_≡_};
 ghost use Rattle.chart.specs.Checks.{checkOf};
 ghost use Rattle.witness.specs.Labellings.{labelledOf};
@@ -58,8 +59,9 @@ pub fn check(body: &[u8], labels: &[u8]) -> Labelled
     if c < n {
         return Labelled::Refused(Place::BranchCycle(c));
     }
-    let loops = count_loops(&high);
-    join_later(&mut high);
+    let top = top_label(labels);
+    let loops = count_loops(&high, top);
+    join_later(&mut high, top);
     match loops_check(
         body,
         labels,

@@ -9,15 +9,15 @@ use bits::low_with;
 use chart::sets::put_row;
 ghost use mathlib.Core.Path.{_≡_};
 ghost use mathlib.Core.List.{List};
-ghost use Prim.Native.Nat.{ℕ, min, _+_, _*_, _≤_, _<_};
-ghost use lib.ListN.{length};
+ghost use Prim.Native.Nat.{ℕ, min, max, _+_, _*_, _≤_, _<_};
+ghost use lib.ListN.{length, getD};
 ghost use Rattle.bits.specs.Bits.{Bytes};
 ghost use Rattle.bits.specs.Words.{HasRow};
 ghost use Rattle.bits.specs.Tables.{Table, Gains, When};
 ghost use Rattle.chart.specs.Bodies.{verticesOf};
 ghost use Rattle.chart.specs.Checks.{checkOf};
 ghost use Rattle.chart.specs.Steps.{StepsOf};
-ghost use Rattle.witness.specs.Given.{Given, Enters, NoSteps, RowOf, RowWith, Collected, sizeOf};
+ghost use Rattle.witness.specs.Given.{Given, Enters, NoSteps, RowOf, RowWith, Collected, NoneAbove, sizeOf};
 ghost use Rattle.witness.specs.Labellings.{loopsOf};
 use report::Stage;
 
@@ -137,6 +137,26 @@ pub(crate) fn collect(
     }
 }
 
+// The greater of two labels.
+fn greater(a: u8, b: u8) -> u8
+    ensures { λ r. ⌜ r ≡ max a b ⌝ }
+{
+    if a < b { b } else { a }
+}
+
+// The highest label.
+pub(crate) fn top_label(labels: &[u8]) -> usize
+    ensures { λ r. ⌜ (r < 256) × ((i : ℕ) → getD (now (labels .entry)) i 0 ≤ r) ⌝ }
+{
+    let mut top: u8 = 0;
+    let mut i: usize = 0;
+    while i < labels.len() {
+        top = greater(top, labels[i]);
+        i += 1;
+    }
+    top as usize
+}
+
 // How many numbers the sets of the levels 2 k and 2 k + 1 have. Those of most levels have none, which is seen at once.
 fn sizes(entered: &[u64; 512], k: usize) -> usize
     requires { ⌜ (length (now entered) ≡ 512) × (k < 128) ⌝ }
@@ -152,26 +172,26 @@ fn sizes(entered: &[u64; 512], k: usize) -> usize
     count(a) + count(b) + (count(c) + count(d))
 }
 
-// The number of loops, by the vertices that have an entry of each level.
-pub(crate) fn count_loops(entered: &[u64; 512]) -> usize
-    requires { ⌜ length (now entered) ≡ 512 ⌝ }
+// The number of loops, by the vertices that have an entry of each level up to the highest.
+pub(crate) fn count_loops(entered: &[u64; 512], top: usize) -> usize
+    requires { ⌜ (length (now entered) ≡ 512) × (top < 256) × NoneAbove (now entered) top ⌝ }
     ensures { λ r. ⌜ ((b labels : List ℕ) → checkOf b ≡ Stage.Passed → Bytes labels → Table 256 (Enters (StepsOf b labels)) (now (entered .entry)) → r ≡ loopsOf b labels) ⌝ }
 {
     let mut loops: usize = 0;
     let mut k: usize = 0;
-    while k < 128 {
+    while 2 * k <= top {
         loops += sizes(entered, k);
         k += 1;
     }
     loops
 }
 
-// Each of the 256 sets with what the later ones have.
-pub(crate) fn join_later(table: &mut [u64])
-    requires { ⌜ length (now table) ≡ 512 ⌝ }
+// Each of the 256 sets with what the later ones have. Those after `top` have nothing.
+pub(crate) fn join_later(table: &mut [u64], top: usize)
+    requires { ⌜ (length (now table) ≡ 512) × (top < 256) × NoneAbove (now table) top ⌝ }
     ensures { λ _. ⌜ Gains (λ (x y : ℕ). (m : ℕ) × (x < m) × (m < 256) × HasRow (now (table .entry)) m y) (now (table .entry)) (now (table .exit)) ⌝ }
 {
-    let mut l: usize = 255;
+    let mut l = top;
     while 0 < l {
         let lo = table[2 * l];
         let hi = table[2 * l + 1];

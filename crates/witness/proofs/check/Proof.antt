@@ -5,7 +5,7 @@ use Rattle.chart.proofs.Checks.{well-formed}
 use Rattle.witness.specs.Answers.{LoopsSaid}
 use Rattle.witness.proofs.Answers.{answer-31, answer-32, answer-passed, answer-refused}
 use Rattle.witness.proofs.Collecting.{collected-none}
-use Rattle.witness.proofs.Given.{levels-of}
+use Rattle.witness.proofs.Given.{levels-of, none-above}
 use Rattle.witness.proofs.Labellings.{labelled-long}
 use borrow.Author.Needs.{needs}
 use Rattle.witness.proofs.check.Statement.{statement}
@@ -68,18 +68,29 @@ returns-3 c =
     let C = b .branch-cycle .ensures .1 _ (tables .of-branches) in
     sym (answer-32 _ _ w B long U (omega (arith, n, b .before .before .before .if2 .left)) (C .0) (omega (arith, n, c .if3 .taken)))
 
+top-label-requires : tie.Need-top-label-requires
+top-label-requires c κs = search needs
+
 count-loops-requires : tie.Need-count-loops-requires
-count-loops-requires c κs = search needs
+count-loops-requires c κs =
+    let b = c .before .before .before in
+    let g = b .before .before .before .before .before .before .before in
+    let t = c .before .top-label .ensures in
+    (search needs, t .0, none-above (g .collect .ensures .of-entered) (t .1))
 
 slice-aggregate-join-later : tie.Need-slice-aggregate-join-later
 slice-aggregate-join-later c = search needs
 
 join-later-requires : tie.Need-join-later-requires
-join-later-requires c κs = search needs
+join-later-requires c κs =
+    let k = c .before .before .before in
+    let g = k .before .before .before .before .before .before .before .before .before in
+    let t = k .top-label .ensures in
+    (search needs, t .0, none-above (g .collect .ensures .of-entered) (t .1))
 
 loops-check-requires : tie.Need-loops-check-requires
 loops-check-requires c κs =
-    let b = c .before .before .before .before .before .before .before .before .before .before .before .before in
+    let b = c .before .before .before .before .before .before .before .before .before .before .before .before .before in
     let u = b .before .before .before .before in
     let g = u .before .before .before in
     let r = g .before .before .before .before .before .before .before in
@@ -93,7 +104,7 @@ loops-check-requires c κs =
       record { passed = a .pre; begins = r .rows .ensures; long = long },
       record {
         of-branches = tables .of-branches;
-        of-after = C .1 (omega (arith, n, C .0 .within, c .before .before .before .before .before .before .before .before .before .before .before .if3 .left));
+        of-after = C .1 (omega (arith, n, C .0 .within, c .before .before .before .before .before .before .before .before .before .before .before .before .if3 .left));
         of-entries = tables .of-entries;
         of-low = tables .of-low;
         of-levels = levels-of w B (tables .of-entered) (c .before .before .before .before .before .before .before .join-later .ensures);
@@ -108,6 +119,22 @@ enum-told c = search needs
 
 returns-4 : tie.Need-returns-4
 returns-4 c =
+    let b = c .before .before .before .before .before .before .before .before .before .before .before .before .before .before .before .before .before in
+    let u = b .before .before .before .before in
+    let g = u .before .before .before in
+    let r = g .before .before .before .before .before .before .before in
+    let a = r .before .before .before .before .before .before in
+    let w = well-formed _ (a .pre) in
+    let B : Bytes (a .args .labels .now) = λ k. omega (arith, r .before .before .before .before .shared-slice-known2 .given k) in
+    let long = r .before .before .if1 .left ∙ r .before .before .before .count .ensures .0 in
+    let n = r .before .byte .ensures .0 in
+    let tables = g .collect .ensures in
+    let U = u .unreached .ensures _ (tables .of-next) in
+    let C = b .branch-cycle .ensures .1 _ (tables .of-branches) in
+    answer-refused _ _ w B long U (omega (arith, n, b .before .before .before .if2 .left)) (C .0) (omega (arith, n, c .before .before .before .before .before .before .before .before .before .before .before .before .before .before .before .before .if3 .left)) (subst (LoopsSaid _) (c .before .place .given .1) (c .before .before .before .loops-check .ensures))
+
+returns-5 : tie.Need-returns-5
+returns-5 c =
     let b = c .before .before .before .before .before .before .before .before .before .before .before .before .before .before .before .before in
     let u = b .before .before .before .before in
     let g = u .before .before .before in
@@ -120,23 +147,7 @@ returns-4 c =
     let tables = g .collect .ensures in
     let U = u .unreached .ensures _ (tables .of-next) in
     let C = b .branch-cycle .ensures .1 _ (tables .of-branches) in
-    answer-refused _ _ w B long U (omega (arith, n, b .before .before .before .if2 .left)) (C .0) (omega (arith, n, c .before .before .before .before .before .before .before .before .before .before .before .before .before .before .before .if3 .left)) (subst (LoopsSaid _) (c .before .place .given .1) (c .before .before .before .loops-check .ensures))
-
-returns-5 : tie.Need-returns-5
-returns-5 c =
-    let b = c .before .before .before .before .before .before .before .before .before .before .before .before .before .before .before in
-    let u = b .before .before .before .before in
-    let g = u .before .before .before in
-    let r = g .before .before .before .before .before .before .before in
-    let a = r .before .before .before .before .before .before in
-    let w = well-formed _ (a .pre) in
-    let B : Bytes (a .args .labels .now) = λ k. omega (arith, r .before .before .before .before .shared-slice-known2 .given k) in
-    let long = r .before .before .if1 .left ∙ r .before .before .before .count .ensures .0 in
-    let n = r .before .byte .ensures .0 in
-    let tables = g .collect .ensures in
-    let U = u .unreached .ensures _ (tables .of-next) in
-    let C = b .branch-cycle .ensures .1 _ (tables .of-branches) in
-    answer-passed _ _ w B long U (omega (arith, n, b .before .before .before .if2 .left)) (C .0) (omega (arith, n, c .before .before .before .before .before .before .before .before .before .before .before .before .before .before .if3 .left)) (subst (LoopsSaid _) (c .enum-told .given .1) (c .before .before .loops-check .ensures))
+    answer-passed _ _ w B long U (omega (arith, n, b .before .before .before .if2 .left)) (C .0) (omega (arith, n, c .before .before .before .before .before .before .before .before .before .before .before .before .before .before .before .if3 .left)) (subst (LoopsSaid _) (c .enum-told .given .1) (c .before .before .loops-check .ensures))
     (c .before .before .before .before .before .before .before .before .before .before .before .before .count-loops .ensures _ _ (a .pre) B (tables .of-entered))
 
 pub check-spec : {M : Type 1} → statement M
@@ -153,6 +164,7 @@ check-spec =
     returns-2
     branch-cycle-requires
     returns-3
+    top-label-requires
     count-loops-requires
     slice-aggregate-join-later
     join-later-requires

@@ -10,13 +10,13 @@ use Rattle.witness.proofs.tables.join_later.Statement.{statement}
 use Rattle.witness.proofs.tables.join_later.Tie as tie
 
 abbrev Inv-loop : tie.InvT-loop
-Inv-loop table₀ l₀ table l = (length table₀ ≡ 512) × (l ≤ 255) × Gains (Later table₀ l) table₀ table
+Inv-loop table₀ top l₀ table l = (length table₀ ≡ 512) × (l ≤ 255) × Gains (Later table₀ l) table₀ table
 
 abbrev μ-loop : tie.MeasureT-loop
-μ-loop table₀ l₀ table l = l
+μ-loop table₀ top l₀ table l = l
 
 loop-holds : tie.Need-loop-holds Inv-loop μ-loop
-loop-holds c = (c .before .pre, omega arith, later-none)
+loop-holds c = let p = c .before .pre in (p .0, omega (arith, p .1), later-none (c .before .args .top) (p .2))
 
 mul-lo : tie.Need-mul-lo Inv-loop μ-loop
 mul-lo c = search needs

@@ -1,0 +1,63 @@
+use mathlib.Core.Logic.{by-cases}
+use Prim.Native.Nat.{ℕ, _-_, _≤_, _<_}
+use native.Mathlib.Decide.{decLt}
+use native.Mathlib.Omega.{arith}
+use borrow.Author.Count.{below-more}
+use borrow.Author.Needs.{needs}
+use lib.ListN.{length, getD, List·getD-eq-default}
+use Rattle.witness.proofs.tables.top_label.Statement.{statement}
+use Rattle.witness.proofs.tables.top_label.Tie as tie
+
+abbrev Inv-loop : tie.InvT-loop
+Inv-loop labels top₀ i₀ top i = (i ≤ length labels) × (top < 256) × ((j : ℕ) → j < i → getD labels j 0 ≤ top)
+
+abbrev μ-loop : tie.MeasureT-loop
+μ-loop labels top₀ i₀ top i = length labels - i
+
+loop-holds : tie.Need-loop-holds Inv-loop μ-loop
+loop-holds c = (omega arith, omega arith, λ j h. absurd (omega arith))
+
+shared-slice-read-greater : tie.Need-shared-slice-read-greater Inv-loop μ-loop
+shared-slice-read-greater c = search needs
+
+greater-requires : tie.Need-greater-requires Inv-loop μ-loop
+greater-requires c κs = search needs
+
+add-i : tie.Need-add-i Inv-loop μ-loop
+add-i c = search needs
+
+loop-less : tie.Need-loop-less Inv-loop μ-loop
+loop-less c = search needs
+
+loop-again : tie.Need-loop-again Inv-loop μ-loop
+loop-again c =
+    let l = c .before .before .before .loop in
+    let i = l .inv in
+    let e = c .greater .ensures in
+    let b = c .before .before .before .before .shared-slice-known .given (l .i) in
+    let a = c .before .before .before .before .before .args .labels .now in
+    (omega arith, omega (arith, e, b, i .1), below-more (λ (j : ℕ). getD a j 0 ≤ c .greater .result) (l .i) (λ j h. let k = i .2 j h in omega (arith, e, k)) (omega (arith, e)))
+
+cast-result : tie.Need-cast-result Inv-loop μ-loop
+cast-result c = search needs
+
+returns : tie.Need-returns Inv-loop μ-loop
+returns c =
+    let l = c .before .loop in
+    let a = c .before .before .before .args .labels .now in
+    (l .inv .1, λ i. by-cases (decLt i (length a)) (λ h. l .inv .2 i (omega (arith, h, c .loop-test .left))) (λ h. omega (arith, List·getD-eq-default a 0 {n = i} (omega (arith, h)))))
+
+pub top-label-spec : {M : Type 1} → statement M
+top-label-spec =
+    tie.close
+    (tie.spec
+    Inv-loop
+    μ-loop
+    loop-holds
+    shared-slice-read-greater
+    greater-requires
+    add-i
+    loop-less
+    loop-again
+    cast-result
+    returns)
