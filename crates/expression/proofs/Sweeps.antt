@@ -4,28 +4,28 @@ use mathlib.Core.Path.{_≡_, refl, ap, ap₂, sym, _∙_, subst}
 use mathlib.Core.Bool.{Bool, true, false, cond, _&&_, _||_}
 use mathlib.Core.Logic.{_⊎_, inl, inr, ⊎-elim}
 use mathlib.Core.List.{List, [], _∷_, _++_, map, List·Memᴰ, List·Memᴰ·head, List·Memᴰ·tail, List·Memᴰ·not-nil, List·Memᴰ·cases-cons, List·Memᴰ·append-cases, Memᴰ·append-left, Memᴰ·append-right, Memᴰ·map, Memᴰ·of-map}
-use native.Mathlib.Nat.{eq-or-lt-of-le, le-of-suc-le-suc}
+use native.Mathlib.Nat.{eq-or-lt-of-le}
 use native.Mathlib.Omega.{arith}
 use lib.Dec.{eqb, ltb}
 use lib.ListN.{length, getD, take, set, replicate, length-set, length-replicate}
 use lib.Seq.{getD-set-same, getD-set-other, getD-take, length-take-le}
-use borrow.Author.Tests.{eqb-true, eqb-false, ltb-true, ltb-false, eq-eqb, lt-ltb, le-ltb}
+use borrow.Author.Tests.{eqb-true, eqb-false, ltb-false, eq-eqb, lt-ltb, le-ltb}
 use Rattle.theory.specs.Ascending.{Below, Ascending}
 use Rattle.theory.specs.Transitions.{Transition, precedes}
 use Rattle.theory.specs.Nodes.{Node, bad, dead, leaf, bin, first, after}
 use Rattle.theory.specs.ExpressionCharts.{vertexOf, edge, edges, transitions}
-use Rattle.theory.proofs.Ascending.{one-list, precedes-order, sort→, sort←, ltb-order}
+use Rattle.theory.proofs.Ascending.{one-list, precedes-order, sort→}
 use Rattle.theory.proofs.ExpressionCharts.{transitions-ascend, transitions→, transitions←}
 use Rattle.theory.proofs.Bounds.{first-leaf}
 use Rattle.expression.specs.Table.{actionOf, node, count, WellFormed}
 use Rattle.bits.specs.Bits.{Bytes}
 use Rattle.expression.specs.Body.{chartOf}
 use Rattle.expression.specs.Targets.{targetOf}
-use Rattle.expression.specs.Keys.{keyOf, onLeaf, leafKeys, keysBelow, Keyed, RankOf, Ranked}
+use Rattle.expression.specs.Keys.{keyOf, onLeaf, leafKeys, keysBelow, Keyed, Ranked}
 use Rattle.expression.specs.Sweep.{marked, marksOf, RanksFit, picks, rowOf, rows, sweep, KeysFit}
 use Rattle.expression.proofs.Table.{tree}
 use Rattle.expression.proofs.View.{leaf-action}
-use Rattle.expression.proofs.KeyLaws.{target-le, keys-ascend, keyed-few}
+use Rattle.expression.proofs.KeyLaws.{target-le, keyed-ascend, keyed-few, rises}
 
 -- LISTS IN ORDER
 below-all : {A : Type 0} (less : A → A → Bool) (x : A) (l : List A) → ((y : A) → List·Memᴰ y l → less x y ≡ true) → Below less x l
@@ -38,26 +38,10 @@ append-ascends less [] ys a b h = b
 append-ascends less (x ∷ []) ys a b h = (below-all less x ys (λ y m. h x y (List·Memᴰ·head refl) m), b)
 append-ascends less (x ∷ z ∷ xs) ys a b h = (a .0, append-ascends less (z ∷ xs) ys (a .1) b (λ u y p q. h u y (List·Memᴰ·tail p) q))
 
-mem-at : (x : ℕ) (l : List ℕ) → List·Memᴰ x l → (i : ℕ) × (i < length l) × (getD l i 0 ≡ x)
-mem-at x [] m = absurd (List·Memᴰ·not-nil m)
-mem-at x (y ∷ l) m =
-    ⊎-elim (λ (e : x ≡ y). (0, omega arith, sym e)) (λ i. let r = mem-at x l i in (suc (r .0), omega (arith, r .1), r .2)) (List·Memᴰ·cases-cons m)
-
 at-mem : (l : List ℕ) (i : ℕ) → i < length l → List·Memᴰ (getD l i 0) l
 at-mem [] i h = absurd (omega arith)
 at-mem (x ∷ l) zero h = List·Memᴰ·head refl
 at-mem (x ∷ l) (suc i) h = List·Memᴰ·tail (at-mem l i (omega arith))
-
-later : (l : List ℕ) (x i : ℕ) → Below ltb x l → Ascending ltb l → i < length l → x < getD l i 0
-later [] x i b a h = absurd (omega arith)
-later (y ∷ l) x zero b a h = ltb-true x y b
-later (y ∷ l) x (suc i) b a h = let p = ltb-true x y b in let q = later l y i (a .0) (a .1) (omega arith) in omega arith
-
-rising : (l : List ℕ) (i j : ℕ) → Ascending ltb l → i < j → j < length l → getD l i 0 < getD l j 0
-rising [] i j a h q = absurd (omega arith)
-rising (x ∷ l) i zero a h q = absurd (omega arith)
-rising (x ∷ l) zero (suc j) a h q = later l x j (a .0) (a .1) (omega arith)
-rising (x ∷ l) (suc i) (suc j) a h q = rising l i j (a .1) (omega arith) (omega arith)
 
 -- MARKS
 module _ (ranks : List ℕ) where
@@ -117,20 +101,6 @@ picks← marks a (suc n) i h q e = go (eqb (getD marks a 0) 1) refl (λ d. picks
     go false f c (inr d) = c d
 
 -- KEYS
-leaf-key : (s : List ℕ) (n j a : ℕ) → j < n → node s j ≡ leaf a → List·Memᴰ (keyOf s j) (leafKeys s n)
-unfolding leafKeys
-leaf-key s zero j a h e = absurd (omega arith)
-leaf-key s (suc n) j a h e = ⊎-elim (λ (q : j ≡ n). here q) (λ (q : j < n). on (node s n) (leaf-key s n j a q e)) (eq-or-lt-of-le (le-of-suc-le-suc h))
-  where
-    here : j ≡ n → List·Memᴰ (keyOf s j) (onLeaf (node s n) (keyOf s n) (leafKeys s n))
-    here q = rw (q, rw q at e) (List·Memᴰ·head refl)
-
-    on : (v : Node) → List·Memᴰ (keyOf s j) (leafKeys s n) → List·Memᴰ (keyOf s j) (onLeaf v (keyOf s n) (leafKeys s n))
-    on bad m = m
-    on dead m = m
-    on (leaf x) m = List·Memᴰ·tail m
-    on (bin o l r) m = m
-
 key-leaf : (s : List ℕ) (n x : ℕ) → List·Memᴰ x (leafKeys s n) → (j : ℕ) × (j < n) × (x ≡ keyOf s j)
 unfolding leafKeys
 key-leaf s zero x mem = absurd (List·Memᴰ·not-nil mem)
@@ -173,12 +143,7 @@ module _ (s : List ℕ) (w : WellFormed s) (keys : List ℕ) (m : ℕ) (ranks : 
   long-keys = length-take-le m keys (let f = few in let l = keyed .long in omega arith)
 
   pub keys-rise : (i j : ℕ) → i < j → j < m → getD keys i 0 < getD keys j 0
-  keys-rise i j h q =
-      let l = long-keys in
-      let r = rising (take m keys) i j (rw (keyed .are) (keys-ascend s (count s))) h (omega arith) in
-      let a = getD-take m keys i 0 (omega arith) in
-      let b = getD-take m keys j 0 q in
-      omega arith
+  keys-rise = rises keys m (let f = few in let l = keyed .long in omega arith) (keyed-ascend s (count s) keys m keyed)
 
   pub keys-fit : Bytes s → KeysFit keys m
   unfolding keysBelow keyOf
@@ -197,22 +162,7 @@ module _ (s : List ℕ) (w : WellFormed s) (keys : List ℕ) (m : ℕ) (ranks : 
 
   -- a leaf's rank is that of its key
   pub leaf-rank : (j a : ℕ) → j < count s → node s j ≡ leaf a → (getD ranks j 0 < m) × (getD keys (getD ranks j 0) 0 ≡ keyOf s j)
-  unfolding keysBelow
-  leaf-rank j a h e = go (ltb (getD ranks j 0) m) refl
-    where
-      r : RankOf keys m (keyOf s j) (getD ranks j 0)
-      r = ranked .each j h .is-rank a e
-
-      found : (i : ℕ) × (i < length (take m keys)) × (getD (take m keys) i 0 ≡ keyOf s j)
-      found = mem-at (keyOf s j) (take m keys) (rw (keyed .are) (sort← ltb ltb-order (keyOf s j) (leafKeys s (count s)) (leaf-key s (count s) j a h e)))
-
-      go : (b : Bool) → ltb (getD ranks j 0) m ≡ b → (getD ranks j 0 < m) × (getD keys (getD ranks j 0) 0 ≡ keyOf s j)
-      go true q = let p = ltb-true _ _ q in (p, r .at p)
-      go false q =
-          let p : m ≤ getD ranks j 0 = ltb-false _ _ q in
-          let l = long-keys in
-          let f = found in
-          absurd (r .not-before (f .0) (omega arith) (sym (getD-take m keys (f .0) 0 (omega arith)) ∙ f .2))
+  leaf-rank j a h e = let r = ranked .each j h .is-rank a e in (r .within, r .at)
 
   -- what a leaf's key is taken apart into
   module _ (k j a : ℕ) (h : j < count s) (e : node s j ≡ leaf a) where

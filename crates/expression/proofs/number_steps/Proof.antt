@@ -2,7 +2,6 @@
 use native.Mathlib.Omega.{arith}
 use borrow.Author.Needs.{needs}
 use Rattle.expression.proofs.Table.{passed→well-formed}
-use Rattle.expression.proofs.KeyLaws.{keyed-half}
 use Rattle.expression.proofs.Numbers.{leaf-ranks, numbered}
 use Rattle.expression.proofs.number_steps.Statement.{statement}
 use Rattle.expression.proofs.number_steps.Tie as tie
@@ -24,9 +23,7 @@ rank-nodes-requires c κs =
     let ck = c .before .before in
     let ft = ck .before .before .before in
     let nc = ft .before in
-    let w = passed→well-formed _ (nc .before .before .pre .0) in
-    let h = keyed-half _ _ _ _ (ck .collect-keys .ensures) w (nc .node-count .ensures) in
-    (w, nc .node-count .ensures, ft .find-targets .ensures, omega arith)
+    (passed→well-formed _ (nc .before .before .pre .0), nc .node-count .ensures, ft .find-targets .ensures, ck .collect-keys .ensures)
 
 first-words-requires : tie.Need-first-words-requires
 first-words-requires c κs =

@@ -1,7 +1,6 @@
 -- `expression::write_passed` meets its contract. The number of transitions is the chart's, so that the bytes needed are the body's.
 use native.Mathlib.Omega.{arith}
 use borrow.Author.Needs.{needs}
-use Rattle.expression.proofs.KeyLaws.{keyed-few}
 use Rattle.expression.proofs.Bodies.{body-long, chart-few, few-keys, fit-ranks, chart-many, short, done}
 use Rattle.expression.proofs.write_passed.Statement.{statement}
 use Rattle.expression.proofs.write_passed.Tie as tie
@@ -19,9 +18,7 @@ rank-nodes-requires : tie.Need-rank-nodes-requires
 rank-nodes-requires c κs =
     let w = c .before .before .before .before .before .before .before .before .before .pre in
     let n = c .before .before .before .before .before .before .node-count .ensures in
-    let k = c .before .before .collect-keys .ensures in
-    let f = keyed-few _ _ _ _ k in
-    (w, n, c .before .before .before .before .before .find-targets .ensures, omega arith)
+    (w, n, c .before .before .before .before .before .find-targets .ensures, c .before .before .collect-keys .ensures)
 
 count-transitions-requires : tie.Need-count-transitions-requires
 count-transitions-requires c κs =
