@@ -175,6 +175,7 @@ pub fn rows(body: &[u8]) -> [usize; 129]
 {
     let n = count(body);
     let vertices = byte(body, 0);
+    // nothing leaves a vertex from V on
     let mut rows = [n; 129];
     let mut at: usize = 0;
     let mut v: usize = 0;

@@ -49,7 +49,7 @@ fn unfinished(s: Search) -> bool
     but(s.seen0, s.past0) != 0
 }
 
-// Whether all that w reaches is known, and `stop` is not among it.
+// Whether all that w reaches is known, and `stop` is neither w nor among it.
 fn jumps(after: &[u64; 256], from: usize, to: usize, stop: usize, w: usize) -> bool
     requires { ⌜ (length (now after) ≡ 256) × (w < 128) ⌝ }
     ensures { λ r. ⌜ (r ≡ true → Jumps (now (after .entry)) from to stop w) ⌝ }
