@@ -2,10 +2,13 @@
 //!
 //! * `bench times` prints a row for each kind of file: microseconds a check of both, and their ratio
 //!   over several runs.
+//! * `bench stages` prints such a row for the files of the mixed corpus that have the same number in
+//!   their answer.
 //! * `bench calls WHO FILE COUNT` checks a file COUNT times, for callgrind to count.
 //! * `bench write FOLDER` writes the named files.
 use oracle::gen::{self, worst, Yard};
 use oracle::{fast, Answer};
+use std::collections::BTreeMap;
 use std::hint::black_box;
 use std::time::Instant;
 use std::{env, fs, process};
@@ -132,11 +135,30 @@ fn row(name: &str, files: &[Vec<u8>]) {
     );
 }
 
-fn times() {
+fn head() {
     println!("| files | proved, µs | Rust, µs | ratio, median of {RUNS} | spread |");
     println!("|---|---|---|---|---|");
-    let corpus: Vec<Vec<u8>> = (0..MIXED).map(gen::file).collect();
-    row("mixed-corpus", &corpus);
+}
+
+fn mixed() -> Vec<Vec<u8>> {
+    (0..MIXED).map(gen::file).collect()
+}
+
+fn stages() {
+    head();
+    let mut by_number: BTreeMap<u64, Vec<Vec<u8>>> = BTreeMap::new();
+    for file in mixed() {
+        let number = fast::check(&file).n;
+        by_number.entry(number).or_default().push(file);
+    }
+    for (number, files) in by_number {
+        row(&number.to_string(), &files);
+    }
+}
+
+fn times() {
+    head();
+    row("mixed-corpus", &mixed());
     for (name, file) in named() {
         row(&name, &[file]);
     }
@@ -158,6 +180,7 @@ fn main() {
     let words: Vec<&str> = words.iter().map(String::as_str).collect();
     match words[..] {
         ["times"] => times(),
+        ["stages"] => stages(),
         ["calls", who, path, count] => calls(who, path, count.parse().expect("a number")),
         ["write", folder] => {
             for (name, file) in named() {
@@ -165,7 +188,7 @@ fn main() {
             }
         }
         _ => {
-            eprintln!("bench times | calls WHO FILE COUNT | write FOLDER");
+            eprintln!("bench times | stages | calls WHO FILE COUNT | write FOLDER");
             process::exit(2);
         }
     }
