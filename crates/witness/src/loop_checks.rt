@@ -156,15 +156,13 @@ fn entries_check(
     rows: &[usize; 129],
     branches: &[u64; 256],
     after: &[u64; 256],
-    entries: &[u64; 256],
-    low: &[usize; 128],
     high: &[u64; 512],
     n: usize,
     v: usize,
     all0: u64,
     all1: u64,
 ) -> Stage
-    requires { ⌜ Given (now body) (now labels) (now rows) × Tables (now body) (now labels) (now branches) (now after) (now entries) (now low) (now high) × (v < 128) × Whole (StepsOf (now body) (now labels)) v all0 all1 × (n ≡ verticesOf (now body)) ⌝ }
+    requires { ⌜ Given (now body) (now labels) (now rows) × ((entries low : List ℕ) × Tables (now body) (now labels) (now branches) (now after) entries low (now high)) × (v < 128) × Whole (StepsOf (now body) (now labels)) v all0 all1 × (n ≡ verticesOf (now body)) ⌝ }
     ensures { λ r. ⌜ VertexSaid (StepsOf (now (body .entry)) (now (labels .entry))) v r ⌝ }
 {
     let mut levels = [0u64; 4];
@@ -242,8 +240,6 @@ fn vertex_check(
         rows,
         branches,
         after,
-        entries,
-        low,
         high,
         byte(body, 0),
         v,

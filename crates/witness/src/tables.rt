@@ -10,14 +10,14 @@ use chart::sets::put_row;
 ghost use mathlib.Core.Path.{_≡_};
 ghost use mathlib.Core.List.{List};
 ghost use Prim.Native.Nat.{ℕ, min, max, _+_, _*_, _≤_, _<_};
-ghost use lib.ListN.{length, getD};
+ghost use lib.ListN.{length};
 ghost use Rattle.bits.specs.Bits.{Bytes};
 ghost use Rattle.bits.specs.Words.{HasRow};
 ghost use Rattle.bits.specs.Tables.{Table, Gains, When};
 ghost use Rattle.chart.specs.Bodies.{verticesOf};
 ghost use Rattle.chart.specs.Checks.{checkOf};
 ghost use Rattle.chart.specs.Steps.{StepsOf};
-ghost use Rattle.witness.specs.Given.{Given, Enters, NoSteps, RowOf, RowWith, Collected, NoneAbove, sizeOf};
+ghost use Rattle.witness.specs.Given.{Given, Enters, NoSteps, RowOf, RowWith, Collected, HighestLabel, NoneAbove, sizeOf};
 ghost use Rattle.witness.specs.Labellings.{loopsOf};
 use report::Stage;
 
@@ -146,7 +146,7 @@ fn greater(a: u8, b: u8) -> u8
 
 // The highest label.
 pub(crate) fn top_label(labels: &[u8]) -> usize
-    ensures { λ r. ⌜ (r < 256) × ((i : ℕ) → getD (now (labels .entry)) i 0 ≤ r) ⌝ }
+    ensures { λ r. ⌜ (r < 256) × HighestLabel (now (labels .entry)) r ⌝ }
 {
     let mut top: u8 = 0;
     let mut i: usize = 0;

@@ -17,10 +17,10 @@ use Rattle.witness.proofs.loop_checks.entries_check.Statement.{statemen
 use Rattle.witness.proofs.loop_checks.entries_check.Tie as tie
 
 abbrev Inv-loop : tie.InvT-loop
-Inv-loop body labels rows branches after entries low high n v all0 all1 levels targets level₀ level = WellFormed body × Bytes labels × Table 2 (Levels (StepsOf body labels) v) levels × Table 256 (Targets (StepsOf body labels) v) targets × VertexTo (StepsOf body labels) v level
+Inv-loop body labels rows branches after high n v all0 all1 levels targets level₀ level = WellFormed body × Bytes labels × Table 2 (Levels (StepsOf body labels) v) levels × Table 256 (Targets (StepsOf body labels) v) targets × VertexTo (StepsOf body labels) v level
 
 abbrev μ-loop : tie.MeasureT-loop
-μ-loop body labels rows branches after entries low high n v all0 all1 levels targets level₀ level = 256 - level
+μ-loop body labels rows branches after high n v all0 all1 levels targets level₀ level = 256 - level
 
 slice-aggregate-sort-entries : tie.Need-slice-aggregate-sort-entries Inv-loop μ-loop
 slice-aggregate-sort-entries c = search needs
@@ -64,7 +64,7 @@ array-read-hi : tie.Need-array-read-hi Inv-loop μ-loop
 array-read-hi c = let t = c .before .loop .inv .3 .long in omega arith
 
 loop-check-requires : tie.Need-loop-check-requires Inv-loop μ-loop
-loop-check-requires c κs = let p = c .before .before .before .before .before .before .before .before .before .before .before .pre in let i = c .before .loop .inv in (p .1 .of-branches .long, p .1 .of-after .long, p .1 .of-levels .long, p .2, c .loop-test .taken, rw (p .4) (known-after (i .0) (p .1 .of-branches) (p .1 .of-after)))
+loop-check-requires c κs = let p = c .before .before .before .before .before .before .before .before .before .before .before .pre in let i = c .before .loop .inv in (p .1 .2 .of-branches .long, p .1 .2 .of-after .long, p .1 .2 .of-levels .long, p .2, c .loop-test .taken, rw (p .4) (known-after (i .0) (p .1 .2 .of-branches) (p .1 .2 .of-after)))
 
 enum-told : tie.Need-enum-told Inv-loop μ-loop
 enum-told c = search needs
@@ -77,7 +77,7 @@ returns c =
     let p = c .before .before .before .before .before .before .before .before .before .before .before .before .before .before .pre in
     let i = c .before .before .before .before .loop .inv in
     let l = c .before .before .before .loop-test .taken in
-    let said = c .before .before .loop-check .ensures _ _ _ _ (i .0) (p .1) (i .4 .low) (loop-targets (i .3) (i .4 .low) l) (p .3) in
+    let said = c .before .before .loop-check .ensures _ _ _ _ (i .0) (p .1 .2) (i .4 .low) (loop-targets (i .3) (i .4 .low) l) (p .3) in
     vertex-stop (c .enum-told2 .given .1) (i .4) l said
 
 next-level-requires-2 : tie.Need-next-level-requires-2 Inv-loop μ-loop
@@ -91,7 +91,7 @@ loop-again c =
     let p = c .before .before .before .before .before .before .before .before .before .before .before .before .before .before .before .before .pre in
     let i = c .before .before .before .before .before .before .loop .inv in
     let l = c .before .before .before .before .before .loop-test .taken in
-    let said = c .before .before .before .before .loop-check .ensures _ _ _ _ (i .0) (p .1) (i .4 .low) (loop-targets (i .3) (i .4 .low) l) (p .3) in
+    let said = c .before .before .before .before .loop-check .ensures _ _ _ _ (i .0) (p .1 .2) (i .4 .low) (loop-targets (i .3) (i .4 .low) l) (p .3) in
     (i .0, i .1, i .2, i .3, vertex-more (i .4) (subst (LoopSaid _ _ _) (c .before .before .enum-told .given .1) said) (loop-next (i .2) (c .next-level2 .ensures)))
 
 returns-2 : tie.Need-returns-2 Inv-loop μ-loop

@@ -66,7 +66,7 @@ array-read-entries-check-2 : tie.Need-array-read-entries-check-2
 array-read-entries-check-2 c = search needs
 
 entries-check-requires : tie.Need-entries-check-requires
-entries-check-requires c κs = let p = c .before .before .before .before .before .before .before .before .before .before .pre in (p .0, p .1, p .2, whole-set (well-formed _ (p .0 .passed)) (p .1) (p .2) (c .before .before .before .closure .ensures), c .byte .ensures .0)
+entries-check-requires c κs = let p = c .before .before .before .before .before .before .before .before .before .before .pre in (p .0, (_, _, p .1), p .2, whole-set (well-formed _ (p .0 .passed)) (p .1) (p .2) (c .before .before .before .closure .ensures), c .byte .ensures .0)
 
 returns-3 : tie.Need-returns-3
 returns-3 c = search needs

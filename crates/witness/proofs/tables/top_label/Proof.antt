@@ -1,21 +1,19 @@
-use mathlib.Core.Logic.{by-cases}
-use Prim.Native.Nat.{ℕ, _-_, _≤_, _<_}
-use native.Mathlib.Decide.{decLt}
+use Prim.Native.Nat.{_-_, _≤_, _<_}
 use native.Mathlib.Omega.{arith}
-use borrow.Author.Count.{below-more}
 use borrow.Author.Needs.{needs}
-use lib.ListN.{length, getD, List·getD-eq-default}
+use lib.ListN.{length}
+use Rattle.witness.proofs.Given.{HighestTo, highest-more, highest-all}
 use Rattle.witness.proofs.tables.top_label.Statement.{statement}
 use Rattle.witness.proofs.tables.top_label.Tie as tie
 
 abbrev Inv-loop : tie.InvT-loop
-Inv-loop labels top₀ i₀ top i = (i ≤ length labels) × (top < 256) × ((j : ℕ) → j < i → getD labels j 0 ≤ top)
+Inv-loop labels top₀ i₀ top i = (i ≤ length labels) × (top < 256) × HighestTo labels i top
 
 abbrev μ-loop : tie.MeasureT-loop
 μ-loop labels top₀ i₀ top i = length labels - i
 
 loop-holds : tie.Need-loop-holds Inv-loop μ-loop
-loop-holds c = (omega arith, omega arith, λ j h. absurd (omega arith))
+loop-holds c = (omega arith, omega arith, record { above = λ j h. absurd (omega arith); is-label = λ h. absurd (omega arith) })
 
 shared-slice-read-greater : tie.Need-shared-slice-read-greater Inv-loop μ-loop
 shared-slice-read-greater c = search needs
@@ -35,17 +33,13 @@ loop-again c =
     let i = l .inv in
     let e = c .greater .ensures in
     let b = c .before .before .before .before .shared-slice-known .given (l .i) in
-    let a = c .before .before .before .before .before .args .labels .now in
-    (omega arith, omega (arith, e, b, i .1), below-more (λ (j : ℕ). getD a j 0 ≤ c .greater .result) (l .i) (λ j h. let k = i .2 j h in omega (arith, e, k)) (omega (arith, e)))
+    (omega arith, omega (arith, e, b, i .1), highest-more (i .2) e)
 
 cast-result : tie.Need-cast-result Inv-loop μ-loop
 cast-result c = search needs
 
 returns : tie.Need-returns Inv-loop μ-loop
-returns c =
-    let l = c .before .loop in
-    let a = c .before .before .before .args .labels .now in
-    (l .inv .1, λ i. by-cases (decLt i (length a)) (λ h. l .inv .2 i (omega (arith, h, c .loop-test .left))) (λ h. omega (arith, List·getD-eq-default a 0 {n = i} (omega (arith, h)))))
+returns c = let i = c .before .loop .inv in (i .1, highest-all (i .2) (omega (arith, i .0, c .loop-test .left)))
 
 pub top-label-spec : {M : Type 1} → statement M
 top-label-spec =
