@@ -1,7 +1,7 @@
 -- The search along a table of successors.
 use mathlib.Core.Path.{_≡_, refl, sym, ap, _∙_, subst}
 use mathlib.Core.Logic.{_≢_, _⊎_, inl, inr, _↔_}
-use mathlib.Core.Bool.{Bool, true, false, not, cond, false≢true}
+use mathlib.Core.Bool.{Bool, true, false, not, false≢true}
 use mathlib.Core.List.{List, [], _∷_}
 use Prim.Native.Nat.{ℕ, _+_, _-_, _*_, _/_, _%_, _^_, _≤_, _<_}
 use native.Mathlib.Nat.{eq-or-lt-of-le}
@@ -18,7 +18,7 @@ use Rattle.theory.specs.Paths.{Edges, Star, here, step, Plus, last, more, Avoid
 use Rattle.theory.proofs.Paths.{star-then, star-snoc, star-map, plus-of, plus-snoc}
 use Rattle.chart.specs.declared.sets.Search.{Search}
 use Rattle.chart.specs.declared.sets.Move.{Move}
-use Rattle.chart.specs.Sets.{Leads, FromSet, Closed, Known, turnOf, RowPut, FirstTurn, FirstCycle, Words, Finished, Jumps, Either, Added, Jumped, Visited, Taken}
+use Rattle.chart.specs.Sets.{Leads, FromSet, Closed, Known, turnOf, beginOf, endOf, RowPut, FirstTurn, FirstCycle, Words, Finished, Jumps, Either, Added, Jumped, Visited, Taken}
 
 -- the bits of b are those of x that are not y's
 abbrev pub But : ℕ → ℕ → ℕ → Type 0
@@ -266,12 +266,6 @@ turned k n true h = (n - 1 - k, omega (arith, h), omega (arith, h))
 turned k n false h = (k, h, refl)
 
 -- nothing is known before the first turn, then the vertex of the turn too, and at the end all
-abbrev pub beginOf : ℕ → ℕ → Bool → ℕ
-beginOf i n down = cond down (n - i) 0
-
-abbrev pub endOf : ℕ → ℕ → Bool → ℕ
-endOf i n down = cond down n i
-
 pub turns-none : (a after : List ℕ) (n : ℕ) (down : Bool) → Known a after (beginOf 0 n down) (endOf 0 n down)
 turns-none a after n true = record { exactly = λ x y h l. absurd (omega (arith, h, l)) }
 turns-none a after n false = known-none a after

@@ -33,11 +33,17 @@ pub record Known (a after : List ℕ) (from to : ℕ) : Type 0 where
 abbrev pub turnOf : ℕ → ℕ → Bool → ℕ
 turnOf i n down = cond down (n - 1 - i) i
 
--- the vertices of the first i turns, from the first number of r up to the second
+-- where the vertices of the first i turns begin and where they end
+abbrev pub beginOf : ℕ → ℕ → Bool → ℕ
+beginOf i n down = cond down (n - i) 0
+
+abbrev pub endOf : ℕ → ℕ → Bool → ℕ
+endOf i n down = cond down n i
+
 pub record Turns (i n : ℕ) (down : Bool) (r : List ℕ) : Type 0 where
   pub long : length r ≡ 2
-  pub begin : getD r 0 0 ≡ cond down (n - i) 0
-  pub end : getD r 1 0 ≡ cond down n i
+  pub begin : getD r 0 0 ≡ beginOf i n down
+  pub end : getD r 1 0 ≡ endOf i n down
 
 -- r is the first turn whose vertex reaches itself, or n
 pub record FirstTurn (a : List ℕ) (n : ℕ) (down : Bool) (r : ℕ) : Type 0 where

@@ -7,8 +7,8 @@ use borrow.Author.Needs.{needs}
 use lib.ListN.{length, getD}
 use Rattle.bits.specs.Words.{Has}
 use Rattle.theory.specs.Paths.{Plus}
-use Rattle.chart.specs.Sets.{Leads, Known, turnOf}
-use Rattle.chart.proofs.Searches.{met-plus, plus-met, known-more, beginOf, endOf, turns-none, turn-more, turns-all}
+use Rattle.chart.specs.Sets.{Leads, Known, turnOf, beginOf, endOf}
+use Rattle.chart.proofs.Searches.{met-plus, plus-met, known-more, turns-none, turn-more, turns-all}
 use Rattle.chart.proofs.sets.first_turn.Statement.{statement}
 use Rattle.chart.proofs.sets.first_turn.Tie as tie
 
