@@ -10,6 +10,12 @@ use Rattle.bits.specs.Unions.{Joined}
 use Rattle.bits.specs.Tables.{Members, Table, Gains, When}
 use Rattle.bits.proofs.Sets.{none}
 
+-- a list of one number
+pub filled : (n x w : ℕ) → w < n → getD (replicate {A = ℕ} n x) w 0 ≡ x
+filled zero x w h = absurd (omega (arith, h))
+filled (suc n) x zero h = refl
+filled (suc n) x (suc w) h = filled n x w (omega (arith, h))
+
 -- a list of zeros
 pub blank : (n w : ℕ) → getD (replicate {A = ℕ} n 0) w 0 ≡ 0
 blank zero w = refl

@@ -1,8 +1,8 @@
 -- The froms of a well-formed body do not fall, so a number parts its transitions.
-use mathlib.Core.Path.{_≡_, refl, sym, _∙_, subst}
+use mathlib.Core.Path.{_≡_, sym, _∙_, subst}
 use mathlib.Core.Logic.{⊎-elim, by-cases}
 use mathlib.Core.List.{List}
-use Prim.Native.Nat.{ℕ, zero, suc, _+_, _-_, _*_, _≤_, _<_}
+use Prim.Native.Nat.{ℕ, _+_, _-_, _*_, _≤_, _<_}
 use native.Mathlib.Nat.{eq-or-lt-of-le, le-refl}
 use native.Mathlib.Decide.{decLe, decLt}
 use native.Mathlib.Omega.{arith}
@@ -10,6 +10,7 @@ use lib.ListN.{length, getD, set, replicate, length-set, length-replicate}
 use lib.Seq.{getD-set-same, getD-set-other}
 use borrow.Author.Count.{below-more}
 use Rattle.bits.specs.Bits.{Bytes}
+use Rattle.bits.proofs.Tables.{filled}
 use Rattle.chart.specs.Bodies.{verticesOf, countOf, fromOf, keyAt, WellFormed}
 use Rattle.chart.specs.Leaving.{Split, Rows}
 
@@ -87,11 +88,6 @@ pub record RowsBelow (b : List ℕ) (n : ℕ) (r : List ℕ) (at v : ℕ) : Type
   pub passed : (i : ℕ) → i < at → fromOf b i < v
   pub split : (k : ℕ) → k < v → Split b n k (getD r k 0)
   pub later : (k : ℕ) → v ≤ k → k < 129 → getD r k 0 ≡ n
-
-filled : (m n k : ℕ) → k < m → getD (replicate {A = ℕ} m n) k 0 ≡ n
-filled zero n k h = absurd (omega (arith, h))
-filled (suc m) n zero h = refl
-filled (suc m) n (suc k) h = filled m n k (omega (arith, h))
 
 pub rows-none : (b : List ℕ) (n : ℕ) → RowsBelow b n (replicate 129 n) 0 0
 rows-none b n = record { long = length-replicate {A = ℕ} 129 n; within = omega arith; passed = λ i h. absurd (omega arith); split = λ k h. absurd (omega arith); later = λ k l h. filled 129 n k h }

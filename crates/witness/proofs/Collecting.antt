@@ -2,15 +2,15 @@
 use mathlib.Core.Path.{_≡_, refl, sym, _∙_, subst}
 use mathlib.Core.Logic.{_≢_, _⊎_, inl, inr, ⊎-elim, by-cases, _↔_}
 use mathlib.Core.List.{List}
-use Prim.Native.Nat.{ℕ, zero, suc, min, _+_, _≤_, _<_}
+use Prim.Native.Nat.{ℕ, _+_, _≤_, _<_}
 use native.Mathlib.Decide.{ℕ-discrete, decLt}
 use native.Mathlib.Omega.{arith}
-use lib.ListN.{length, getD, set, replicate, length-set, length-replicate}
+use lib.ListN.{getD, set, replicate, length-set, length-replicate}
 use lib.Seq.{getD-set-same, getD-set-other}
 use Rattle.bits.specs.Words.{On, Has, HasRow}
 use Rattle.bits.specs.Tables.{Table, Gains}
-use Rattle.bits.proofs.Sets.{none, has-either}
-use Rattle.bits.proofs.Tables.{⊎-map, gains-none, gained, table-as, table-gains}
+use Rattle.bits.proofs.Sets.{has-either}
+use Rattle.bits.proofs.Tables.{filled, ⊎-map, gains-none, gained, table-as, table-gains}
 use Rattle.theory.specs.Charts.{Steps, Any, Branch, Loop}
 use Rattle.chart.specs.Bodies.{verticesOf, fromOf, toOf, WellFormed}
 use Rattle.chart.specs.Leaving.{Rows}
@@ -90,11 +90,6 @@ collected-as f C = record {
   of-low = record { long = C .of-low .long; each = λ v h. lowest-as (λ l g. (λ (a, w, s). (a, w, f v l w .0 s), λ (a, w, s). (a, w, f v l w .1 s))) (C .of-low .each v h) };
   of-entered = table-as (λ l x h g. (λ (a, w, s). (a, w, f x l w .0 s), λ (a, w, s). (a, w, f x l w .1 s))) (C .of-entered);
 }
-
-filled : (n x v : ℕ) → v < n → getD (replicate n x) v 0 ≡ x
-filled zero x v h = absurd (omega arith)
-filled (suc n) x zero h = refl
-filled (suc n) x (suc v) h = filled n x v (omega arith)
 
 -- tables with nothing in them
 pub collected-none : Collected NoSteps (replicate 256 0) (replicate 256 0) (replicate 256 0) (replicate 128 256) (replicate 512 0)
