@@ -1,5 +1,5 @@
 -- 43 to 45 by the tables: what the loops of the search keep, and that what it lets pass does pass.
-use mathlib.Core.Path.{_≡_, refl, sym, _∙_, subst}
+use mathlib.Core.Path.{_≡_, refl, sym, subst}
 use mathlib.Core.Logic.{_⊎_, inl, inr, _↔_, by-cases}
 use mathlib.Core.Bool.{Bool, true, false, _&&_, false≢true}
 use mathlib.Core.List.{List, [], _∷_}
@@ -7,8 +7,7 @@ use Prim.Native.Nat.{ℕ, _+_, _*_, _/_, _%_, _^_, _≤_, _<_}
 use native.Mathlib.Decide.{ℕ-discrete}
 use native.Mathlib.Omega.{arith}
 use lib.Dec.{eqb}
-use lib.ListN.{getD, set, length-set, replicate}
-use lib.Seq.{getD-set-same, getD-set-other}
+use lib.ListN.{getD, set, replicate}
 use borrow.Author.Tests.{eqb-true}
 use Rattle.theory.specs.Relations.{AllMatched, converse}
 use Rattle.bits.specs.Bits.{Bytes}
@@ -17,6 +16,7 @@ use Rattle.bits.specs.Unions.{United}
 use Rattle.bits.proofs.Sets.{zero-off, none, has-both, has-but, with-low, has-low}
 use Rattle.chart.specs.Bodies.{verticesOf, actionOf, toOf, WellFormed}
 use Rattle.chart.specs.Leaving.{Rows}
+use Rattle.chart.specs.Sets.{RowPut}
 use Rattle.chart.proofs.Order.{at-mid, between}
 use Rattle.bisimulation.specs.Relations.{indexedOf}
 use Rattle.bisimulation.specs.Answers.{Related, Fits, Passes}
@@ -162,32 +162,14 @@ module _ {into acting users body rows : List ℕ} {used v : ℕ} (R : Rows body 
 pub gather-none : (columns into acting users : List ℕ) (used : ℕ) (body : List ℕ) → Gathered columns into acting users used body 0 (replicate {A = ℕ} 256 0)
 gather-none columns into acting users used body = record { long = refl; given = λ u v m. absurd (omega arith); others = λ u v l m. absurd (omega arith) }
 
-pub gather-more : {columns into acting users body t more : List ℕ} {used v : ℕ} → v < 128 → Gathered columns into acting users used body v t → Refusable into acting users used body v (getD columns (2 * v) 0) (getD columns (2 * v + 1) 0) more → Gathered columns into acting users used body (v + 1) (set (set t (2 * v) (getD more 0 0)) (2 * v + 1) (getD more 1 0))
-gather-more {columns} {into} {acting} {users} {body} {t} {more} {used} {v} low G R = record { long = length-set first (2 * v + 1) q ∙ length-set t (2 * v) p ∙ G .long; given = given; others = others }
+pub gather-more : {columns into acting users body t more both : List ℕ} {used v : ℕ} → Gathered columns into acting users used body v t → Refusable into acting users used body v (getD columns (2 * v) 0) (getD columns (2 * v + 1) 0) more → RowPut t v (getD more 0 0) (getD more 1 0) both → Gathered columns into acting users used body (v + 1) both
+gather-more {columns} {into} {acting} {users} {body} {t} {more} {both} {used} {v} G R P = record { long = P .long; given = given; others = others }
   where
-    p : ℕ
-    p = getD more 0 0
-
-    q : ℕ
-    q = getD more 1 0
-
-    first : List ℕ
-    first = set t (2 * v) p
-
-    both : List ℕ
-    both = set first (2 * v + 1) q
-
-    new : (u w : ℕ) → w ≡ v → HasRow both w u ↔ Has p q u
-    new u w e =
-        let f : getD both (2 * v) 0 ≡ p = getD-set-other first (2 * v + 1) (2 * v) q 0 (λ x. omega arith) ∙ getD-set-same t (2 * v) p 0 (omega (arith, G .long)) in
-        let g : getD both (2 * v + 1) 0 ≡ q = getD-set-same first (2 * v + 1) q 0 (omega (arith, length-set t (2 * v) p, G .long)) in
-        subst (λ (x : ℕ). HasRow both x u ↔ Has p q u) (sym e) (rw (f, g) ((λ h. h), (λ h. h)))
+    new : (u w : ℕ) → w ≡ v → HasRow both w u ↔ Has (getD more 0 0) (getD more 1 0) u
+    new u w e = subst (λ (x : ℕ). HasRow both x u ↔ Has (getD more 0 0) (getD more 1 0) u) (sym e) (rw (P .low, P .high) ((λ h. h), (λ h. h)))
 
     old : (u w : ℕ) → ¬ (w ≡ v) → HasRow both w u ↔ HasRow t w u
-    old u w e =
-        let f : getD both (2 * w) 0 ≡ getD t (2 * w) 0 = getD-set-other first (2 * v + 1) (2 * w) q 0 (λ x. omega arith) ∙ getD-set-other t (2 * v) (2 * w) p 0 (λ x. e (omega arith)) in
-        let g : getD both (2 * w + 1) 0 ≡ getD t (2 * w + 1) 0 = getD-set-other first (2 * v + 1) (2 * w + 1) q 0 (λ x. e (omega arith)) ∙ getD-set-other t (2 * v) (2 * w + 1) p 0 (λ x. omega arith) in
-        rw (f, g) ((λ h. h), (λ h. h))
+    old u w e = let o = P .others w e in rw (o .0, o .1) ((λ h. h), (λ h. h))
 
     given : (u w : ℕ) → w < v + 1 → HasRow both w u → HasRow columns w u
     given u w m h =

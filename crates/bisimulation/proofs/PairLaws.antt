@@ -11,7 +11,7 @@ use Rattle.theory.specs.Relations.{Matched, Unmatched, AllMatched, converse}
 use Rattle.bits.specs.Bits.{Bytes}
 use Rattle.bits.specs.Words.{On, LowestOn, Has, HasRow}
 use Rattle.bits.proofs.Sets.{zero-off, has-either}
-use Rattle.chart.specs.Bodies.{verticesOf, countOf, fromOf, actionOf, toOf, WellFormed}
+use Rattle.chart.specs.Bodies.{countOf, fromOf, actionOf, toOf, WellFormed}
 use Rattle.chart.specs.Leaving.{Rows}
 use Rattle.chart.proofs.Order.{at-mid, between}
 use Rattle.bisimulation.specs.Relations.{indexedOf}

@@ -6,6 +6,7 @@ use bits::either;
 use bits::united;
 use bits::with;
 use bits::without;
+use chart::sets::put_row;
 ghost use mathlib.Core.Path.{_≡_};
 ghost use mathlib.Core.Logic.{_↔_};
 ghost use Prim.Native.Nat.{ℕ, _+_, _*_, _≤_, _<_};
@@ -121,8 +122,7 @@ pub(crate) fn gather(
         let low = columns[2 * v];
         let high = columns[2 * v + 1];
         let more = refusable(into, acting, users, used, body, rows, v, low, high);
-        table[2 * v] = more[0];
-        table[2 * v + 1] = more[1];
+        put_row(&mut table, v, more[0], more[1]);
         v += 1;
     }
     table

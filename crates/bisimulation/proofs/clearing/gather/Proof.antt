@@ -46,32 +46,14 @@ element-copy-out-high c = search needs
 refusable-requires : tie.Need-refusable-requires Inv-loop μ-loop
 refusable-requires c κs = let i = c .before .before .before .loop .inv in (i .0, i .2, i .3, omega (arith, i .4, c .before .before .loop-test .taken, i .0 .header .vertices-high))
 
-array-read-table : tie.Need-array-read-table Inv-loop μ-loop
-array-read-table c = search needs
+array-read-put-row : tie.Need-array-read-put-row Inv-loop μ-loop
+array-read-put-row c = search needs
 
-mul-table : tie.Need-mul-table Inv-loop μ-loop
-mul-table c = search needs
+array-read-put-row-2 : tie.Need-array-read-put-row-2 Inv-loop μ-loop
+array-read-put-row-2 c = search needs
 
-mul-table-2 : tie.Need-mul-table-2 Inv-loop μ-loop
-mul-table-2 c = search needs
-
-array-write-table : tie.Need-array-write-table Inv-loop μ-loop
-array-write-table c = search needs
-
-array-read-table-2 : tie.Need-array-read-table-2 Inv-loop μ-loop
-array-read-table-2 c = search needs
-
-mul-table-3 : tie.Need-mul-table-3 Inv-loop μ-loop
-mul-table-3 c = search needs
-
-add-table : tie.Need-add-table Inv-loop μ-loop
-add-table c = search needs
-
-mul-table-4 : tie.Need-mul-table-4 Inv-loop μ-loop
-mul-table-4 c = search needs
-
-array-write-table-2 : tie.Need-array-write-table-2 Inv-loop μ-loop
-array-write-table-2 c = search needs
+put-row-requires : tie.Need-put-row-requires Inv-loop μ-loop
+put-row-requires c κs = let i = c .before .before .before .before .before .loop .inv in (i .6 .long, omega (arith, i .4, c .before .before .before .before .loop-test .taken, i .0 .header .vertices-high))
 
 add-v : tie.Need-add-v Inv-loop μ-loop
 add-v c = search needs
@@ -81,8 +63,8 @@ loop-less c = search needs
 
 loop-again : tie.Need-loop-again Inv-loop μ-loop
 loop-again c =
-    let i = c .before .before .before .before .loop .inv in
-    (i .0, i .1, i .2, i .3, i .4, omega arith, gather-more (omega (arith, i .4, c .before .before .before .loop-test .taken, i .0 .header .vertices-high)) (i .6) (c .refusable .ensures))
+    let i = c .before .before .before .before .before .before .loop .inv in
+    (i .0, i .1, i .2, i .3, i .4, omega arith, gather-more (i .6) (c .before .before .refusable .ensures) (c .put-row .ensures))
 
 returns : tie.Need-returns Inv-loop μ-loop
 returns c =
@@ -106,15 +88,9 @@ gather-spec =
     mul-high-2
     element-copy-out-high
     refusable-requires
-    array-read-table
-    mul-table
-    mul-table-2
-    array-write-table
-    array-read-table-2
-    mul-table-3
-    add-table
-    mul-table-4
-    array-write-table-2
+    array-read-put-row
+    array-read-put-row-2
+    put-row-requires
     add-v
     loop-less
     loop-again
