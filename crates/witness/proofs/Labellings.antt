@@ -15,10 +15,10 @@ use Rattle.theory.specs.Witnesses.{Witness, Connected}
 use Rattle.theory.specs.Checks.{Outcome, passes, unreached, branch-cycle, no-return, end-inside, not-lower, Unreached, fails-33, fails-34, fails-35, Checked, all-pass, fails-31, fails-32, fails-loop}
 use Rattle.theory.specs.Orders.{AllLoops}
 use Rattle.theory.specs.Tests.{Decides}
-use Rattle.theory.specs.LabellingTests.{loopTest, loopList}
+use Rattle.theory.specs.LabellingTests.{loopList}
 use Rattle.theory.proofs.Tests.{decided, decides-same, decides-and, decides-eqb, decides-below}
 use Rattle.theory.proofs.Reachability.{decides-star}
-use Rattle.theory.proofs.LabellingTests.{decides-any, decides-loop, loops-listed, outcome-checked}
+use Rattle.theory.proofs.LabellingTests.{decides-any, loops-listed, outcome-checked}
 use Rattle.theory.proofs.Outcomes.{one-outcome, passes-iff-witness}
 use Rattle.report.specs.Numbers.{placeNumbers}
 use Rattle.report.specs.declared.Place.the-variants as place
