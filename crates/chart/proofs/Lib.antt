@@ -1,8 +1,8 @@
 -- The laws.
-pub mod Words
+pub mod Codes
 pub mod Checks
 pub mod Order
 pub mod Parts
 pub mod Searches
-pub mod Marking
+pub mod Kept
 pub mod Relations

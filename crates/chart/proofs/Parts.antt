@@ -9,8 +9,9 @@ use lib.Seq.{take-add, drop-drop}
 use borrow.Author.Tests.{eq-eqb, ne-eqb}
 use Rattle.report.specs.declared.Stage.the-variants.{Passed, Refused}
 use Rattle.chart.specs.Bodies.{verticesOf, countOf, fromOf, WellFormed}
+use Rattle.bits.specs.First.{Split}
 use Rattle.chart.specs.Checks.{checkOf}
-use Rattle.chart.specs.Leaving.{leavingAt, leavingOf, Split}
+use Rattle.chart.specs.Leaving.{leavingAt, leavingOf, FromBelow}
 use Rattle.chart.proofs.Order.{low-high, at-low, at-mid, at-high}
 
 -- transitions of other vertices give nothing
@@ -37,7 +38,7 @@ none-leave b v i n h =
     let e : n ≡ n + 0 = omega arith in
     ap (leavingAt b v i) e ∙ skip b v i n 0 h ∙ at-end b v (i + n)
 
-module _ (b : List ℕ) (n v lo hi : ℕ) (L : Split b n v lo) (H : Split b n (v + 1) hi) where
+module _ (b : List ℕ) (n v lo hi : ℕ) (L : Split (FromBelow b v) n lo) (H : Split (FromBelow b (v + 1)) n hi) where
   pub leaving-part : take (4 * hi + 4 - (4 * lo + 4)) (drop (4 * lo + 4) b) ≡ leavingAt b v 0 n
   leaving-part =
       let lh = low-high L H in

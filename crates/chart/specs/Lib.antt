@@ -1,10 +1,9 @@
--- The definitions: the meaning first, then the tests.
+-- The definitions. The meaning: Bodies, Steps, Sets (what a search reaches), Numbered. The tests that run: Checks, Leaving.
+-- Codes only serves the proof of `check`.
 pub mod Bodies
 pub mod Checks
 pub mod Leaving
-pub mod Reached
-pub mod Marks
-pub mod Words
+pub mod Codes
 pub mod Steps
 pub mod Sets
 pub mod Numbered
