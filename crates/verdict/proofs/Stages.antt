@@ -4,6 +4,7 @@ use mathlib.Core.List.{List}
 use Prim.Native.Nat.{ℕ, _+_, _/_, _≤_}
 use native.Mathlib.Omega.{arith}
 use lib.ListN.{length}
+use Rattle.report.specs.declared.Labelled.the-variants as labelled
 use Rattle.report.specs.declared.Place.{Place}
 use Rattle.report.specs.declared.Stage.{Stage}
 use Rattle.report.specs.declared.Stage.the-variants as stage
@@ -17,7 +18,6 @@ use Rattle.expression.specs.Table.{count}
 use Rattle.expression.specs.Body.{bodyOf}
 use Rattle.expression.proofs.Table.{passed→well-formed}
 use Rattle.expression.proofs.Chart.{body-vertices, body-start}
-use Rattle.witness.specs.declared.Labelled.the-variants as labelled
 use Rattle.witness.specs.Labellings.{labelledOf}
 use Rattle.bisimulation.specs.Relations.{relationOf}
 use Rattle.verdict.specs.Files.{andThen, recordsOf}

@@ -2,6 +2,8 @@
 use mathlib.Core.Path.{_≡_}
 use mathlib.Core.List.{List}
 use Prim.Native.Nat.{ℕ}
+use Rattle.report.specs.declared.Labelled.{Labelled}
+use Rattle.report.specs.declared.Labelled.the-variants as labelled
 use Rattle.report.specs.declared.Place.{Place}
 use Rattle.report.specs.declared.Stage.{Stage}
 use Rattle.report.specs.declared.Stage.the-variants as stage
@@ -11,8 +13,6 @@ use Rattle.chart.specs.Bodies.{verticesOf, countOf}
 use Rattle.chart.specs.Checks as chart
 use Rattle.expression.specs.Table as expression
 use Rattle.expression.specs.Body.{bodyOf}
-use Rattle.witness.specs.declared.Labelled.{Labelled}
-use Rattle.witness.specs.declared.Labelled.the-variants as labelled
 use Rattle.witness.specs.Labellings.{labelledOf}
 use Rattle.bisimulation.specs.Relations.{relationOf}
 use Rattle.verdict.specs.Files.{andThen, recordsOf, bodyAt}

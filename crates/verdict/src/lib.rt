@@ -11,10 +11,10 @@ ghost use Rattle.bisimulation.specs.Answers.{Related, Fits};
 ghost use Rattle.verdict.specs.Files.{pairAt, recordStage, recordsOf, offsetOf, bodyAt};
 ghost use Rattle.verdict.specs.Verdicts.{bodiesOf, labellingOf, loopsOf, verdictOf};
 use bits::byte;
+use report::Labelled;
 use report::Place;
 use report::Stage;
 use report::Verdict;
-use witness::Labelled;
 
 // A number of two bytes, the low one first.
 fn pair(file: &[u8], at: usize) -> usize

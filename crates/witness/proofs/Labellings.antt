@@ -21,6 +21,8 @@ use Rattle.theory.proofs.Reachability.{decides-star}
 use Rattle.theory.proofs.LabellingTests.{decides-any, loops-listed, outcome-checked}
 use Rattle.theory.proofs.Outcomes.{one-outcome, passes-iff-witness}
 use Rattle.report.specs.Numbers.{placeNumbers}
+use Rattle.report.specs.declared.Labelled.{Labelled}
+use Rattle.report.specs.declared.Labelled.the-variants.{Passed, Refused}
 use Rattle.report.specs.declared.Place.the-variants as place
 use Rattle.report.specs.declared.Stage.the-variants as stage
 use Rattle.bits.specs.Bits.{Bytes}
@@ -29,8 +31,6 @@ use Rattle.chart.specs.Checks.{checkOf}
 use Rattle.chart.specs.Steps.{StepsOf}
 use Rattle.chart.proofs.Checks.{well-formed}
 use Rattle.chart.proofs.Relations.{steps-formed, steps-listed}
-use Rattle.witness.specs.declared.Labelled.{Labelled}
-use Rattle.witness.specs.declared.Labelled.the-variants.{Passed, Refused}
 use Rattle.witness.specs.Meanings.{Says}
 use Rattle.witness.proofs.Counting.{loops-length}
 use Rattle.witness.specs.Labellings.{stepTest, loopsOf, outcomeOf, answered, labelledOf}

@@ -7,10 +7,10 @@ use lib.ListN.{length, getD}
 use Rattle.theory.specs.Checks.{Outcome, passes, unreached, branch-cycle, no-return, end-inside, not-lower}
 use Rattle.theory.specs.Tests.{someBelow}
 use Rattle.theory.specs.LabellingTests.{StepTest, loopList, outcome}
+use Rattle.report.specs.declared.Labelled.{Labelled}
+use Rattle.report.specs.declared.Labelled.the-variants.{Passed, Refused}
 use Rattle.report.specs.declared.Place.the-variants.{LabelsLength, Unreached, BranchCycle, LoopNoReturn, LoopEndInside, LoopNotLower}
 use Rattle.chart.specs.Bodies.{verticesOf, startOf, countOf, fromOf, toOf}
-use Rattle.witness.specs.declared.Labelled.{Labelled}
-use Rattle.witness.specs.declared.Labelled.the-variants.{Passed, Refused}
 
 -- some transition with the label l leads from u to w
 unfoldable pub stepTest : List ℕ → List ℕ → StepTest
