@@ -1,5 +1,5 @@
 -- The checks 30 to 35 of a labelling beside a chart body, as a test that runs.
-use mathlib.Core.Bool.{Bool, cond, _&&_}
+use mathlib.Core.Bool.{cond, _&&_}
 use mathlib.Core.List.{List}
 use Prim.Native.Nat.{ℕ}
 use lib.Dec.{eqb}
