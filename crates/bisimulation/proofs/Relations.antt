@@ -16,7 +16,7 @@ use Rattle.theory.specs.Relations.{indexed, RelationOutcome, PairFails, fails-4
 use Rattle.theory.proofs.Search.{same-or-earlier}
 use Rattle.theory.proofs.Tests.{not-so, decides-and, decides-eqb, decides-leb, first-pair}
 use Rattle.theory.proofs.Relations.{one-relation-outcome, related-iff-bisimulation, relation-checked}
-use Rattle.report.specs.declared.Place.the-variants.{File, Record, RecordKind, FileOffset, NodesLength, Node, NodeUses, ChartHeader, Transition, LabelsLength, Unreached, BranchCycle, LoopNoReturn, LoopEndInside, LoopNotLower, RelationLength, PairNoVertex, PairStarts, PairEnds, PairExpressionStep, PairChartStep, OutputLength}
+use Rattle.report.specs.declared.Place.the-variants.{RelationLength, PairNoVertex}
 use Rattle.report.specs.declared.Stage.{Stage}
 use Rattle.report.specs.declared.Stage.the-variants.{Passed, Refused}
 use Rattle.chart.specs.Bodies.{verticesOf, startOf}
@@ -24,7 +24,7 @@ use Rattle.chart.specs.Steps.{transitionsOf}
 use Rattle.chart.proofs.Relations.{acts-member}
 use Rattle.bisimulation.specs.Relations.{indexedOf, relatedTest, strayTest, answered, outcomeOf, relationOf}
 use Rattle.bisimulation.specs.Answers.{Related, Stray, StrayAnswer, Fits}
-use Rattle.bisimulation.specs.Meaning.{Comes, Says}
+use Rattle.bisimulation.specs.RelationAnswers.{Comes, RelationAnswer, passed, other-length, no-vertex, starts-unrelated, other-end, expression-alone, chart-alone}
 use Rattle.bisimulation.proofs.Rows.{related-column, related-row}
 
 -- the answer of 40 to 45, with its place
@@ -136,61 +136,53 @@ indexed-chart e b R = (
 )
 
 module _ (e b relation : List ℕ) where
-  pair-says : {u v : ℕ} {o : RelationOutcome} → Comes e b relation u v → PairFails (indexedOf e) (indexedOf b) (Related relation) u v o → Says e b relation (answered e b o)
-  unfolding Says
-  pair-says c (fails-43 h) = (c, h)
-  pair-says c (fails-44 h l) = (c, h, l)
-  pair-says c (fails-45 h a l) = (c, h, a, l)
+  pair-answer : {u v : ℕ} {o : RelationOutcome} → Comes e b relation u v → PairFails (indexedOf e) (indexedOf b) (Related relation) u v o
+      → RelationAnswer e b relation (answered e b o)
+  pair-answer c (fails-43 h) = other-end c h
+  pair-answer c (fails-44 h l) = expression-alone c h l
+  pair-answer c (fails-45 h a l) = chart-alone c h a l
 
-  checked-says : {o : RelationOutcome} → Fits e b relation → RelationChecked (indexedOf e) (indexedOf b) (Related relation) o → Says e b relation (answered e b o)
-  unfolding Says
-  checked-says F (all-pass s p) = (F .whole, F .inside, indexed-chart e b (Related relation) .0 (related-iff-bisimulation .0 (all-pass s p)))
-  checked-says F (fails-42 h) = (F, refl, refl, h)
-  checked-says F (fails-pair s r g f) = pair-says (record { fits = F; starts = s; related = r; earlier = g }) f
+  outcome-answer : {o : RelationOutcome} → Fits e b relation → RelationChecked (indexedOf e) (indexedOf b) (Related relation) o
+      → RelationAnswer e b relation (answered e b o)
+  outcome-answer F (all-pass s p) = passed F (indexed-chart e b (Related relation) .0 (related-iff-bisimulation .0 (all-pass s p)))
+  outcome-answer F (fails-42 h) = starts-unrelated F h
+  outcome-answer F (fails-pair s r g f) = pair-answer (record { fits = F; starts = s; related = r; earlier = g }) f
 
-  answers-say : {s : Stage} → Answers e b relation s → Says e b relation s
-  unfolding Says
-  answers-say (fails-40 h) = (refl, h)
-  answers-say (fails-41 w f) = (w, f)
-  answers-say (fitting F c) = checked-says F c
+  relation-answer : {s : Stage} → Answers e b relation s → RelationAnswer e b relation s
+  relation-answer (fails-40 h) = other-length h
+  relation-answer (fails-41 w f) = no-vertex w f
+  relation-answer (fitting F c) = outcome-answer F c
 
-  says-pair : {u v : ℕ} {o : RelationOutcome} → Comes e b relation u v → PairFails (indexedOf e) (indexedOf b) (Related relation) u v o → Answers e b relation (answered e b o)
-  says-pair c f = fitting (c .fits) (fails-pair (c .starts) (c .related) (c .earlier) f)
+  pair-fails : {u v : ℕ} {o : RelationOutcome} → Comes e b relation u v → PairFails (indexedOf e) (indexedOf b) (Related relation) u v o
+      → Answers e b relation (answered e b o)
+  pair-fails c f = fitting (c .fits) (fails-pair (c .starts) (c .related) (c .earlier) f)
 
-  says-answer : (s : Stage) → Says e b relation s → Answers e b relation s
-  unfolding Says
-  says-answer Passed (w, i, B) = fitting (record { whole = w; inside = i }) (related-iff-bisimulation .1 (indexed-chart e b (Related relation) .1 B))
-  says-answer (Refused (RelationLength p)) (q, h) = rw q (fails-40 h)
-  says-answer (Refused (PairNoVertex p q)) (w, f) = fails-41 w f
-  says-answer (Refused (PairStarts p q)) (F, g, k, h) = rw (g, k) (fitting F (fails-42 h))
-  says-answer (Refused (PairEnds p q)) (c, h) = says-pair c (fails-43 h)
-  says-answer (Refused (PairExpressionStep p q r)) (c, h, l) = says-pair c (fails-44 h l)
-  says-answer (Refused (PairChartStep p q r)) (c, h, a, l) = says-pair c (fails-45 h a l)
-  says-answer (Refused File) h = absurd h
-  says-answer (Refused (Record p)) h = absurd h
-  says-answer (Refused (RecordKind p q)) h = absurd h
-  says-answer (Refused (FileOffset p)) h = absurd h
-  says-answer (Refused (NodesLength p)) h = absurd h
-  says-answer (Refused (Node p)) h = absurd h
-  says-answer (Refused (NodeUses p q)) h = absurd h
-  says-answer (Refused ChartHeader) h = absurd h
-  says-answer (Refused (Transition p)) h = absurd h
-  says-answer (Refused (LabelsLength p)) h = absurd h
-  says-answer (Refused (Unreached p)) h = absurd h
-  says-answer (Refused (BranchCycle p)) h = absurd h
-  says-answer (Refused (LoopNoReturn p q)) h = absurd h
-  says-answer (Refused (LoopEndInside p q)) h = absurd h
-  says-answer (Refused (LoopNotLower p q r)) h = absurd h
-  says-answer (Refused (OutputLength p)) h = absurd h
+  answer-relation : {s : Stage} → RelationAnswer e b relation s → Answers e b relation s
+  answer-relation (passed F B) = fitting F (related-iff-bisimulation .1 (indexed-chart e b (Related relation) .1 B))
+  answer-relation (other-length h) = fails-40 h
+  answer-relation (no-vertex w f) = fails-41 w f
+  answer-relation (starts-unrelated F h) = fitting F (fails-42 h)
+  answer-relation (other-end c h) = pair-fails c (fails-43 h)
+  answer-relation (expression-alone c h l) = pair-fails c (fails-44 h l)
+  answer-relation (chart-alone c h a l) = pair-fails c (fails-45 h a l)
 
-  -- each answer, with its place, stands exactly where what it says holds
-  pub relation-says : (s : Stage) → (relationOf e b relation ≡ s) ↔ Says e b relation s
+  -- EACH ANSWER, with its place, stands exactly where what it says holds
+  pub relation-says : (s : Stage) → (relationOf e b relation ≡ s) ↔ RelationAnswer e b relation s
   relation-says s = (
-    (λ q. subst (Says e b relation) q (answers-say (relation-answers e b relation))),
-    (λ h. one-answer (relation-answers e b relation) (says-answer s h)),
+    (λ q. subst (RelationAnswer e b relation) q (relation-answer (relation-answers e b relation))),
+    (λ h. one-answer (relation-answers e b relation) (answer-relation h)),
   )
 
   -- NOTHING FAILS EXACTLY FOR A BISIMULATION OF THE TWO CHARTS
-  pub relation-iff-bisimulation : (relationOf e b relation ≡ Passed) ↔ ((length relation ≡ 16 * verticesOf e) × ((u v : ℕ) → relatedTest relation u v ≡ true → (u < verticesOf e) × (v < verticesOf b)) × Bisimulation (chart (startOf e) (transitionsOf e)) (chart (startOf b) (transitionsOf b)) (λ u v. relatedTest relation u v ≡ true))
-  unfolding Says
-  relation-iff-bisimulation = relation-says Passed
+  pub relation-iff-bisimulation : (relationOf e b relation ≡ Passed)
+      ↔ ((length relation ≡ 16 * verticesOf e) × ((u v : ℕ) → Related relation u v → (u < verticesOf e) × (v < verticesOf b))
+      × Bisimulation (chart (startOf e) (transitionsOf e)) (chart (startOf b) (transitionsOf b)) (Related relation))
+  relation-iff-bisimulation = (
+    (λ q. parts (relation-says Passed .0 q)),
+    (λ (w, i, B). relation-says Passed .1 (passed (record { whole = w; inside = i }) B)),
+  )
+    where
+      parts : RelationAnswer e b relation Passed
+          → (length relation ≡ 16 * verticesOf e) × ((u v : ℕ) → Related relation u v → (u < verticesOf e) × (v < verticesOf b))
+          × Bisimulation (chart (startOf e) (transitionsOf e)) (chart (startOf b) (transitionsOf b)) (Related relation)
+      parts (passed F B) = (F .whole, F .inside, B)

@@ -8,6 +8,7 @@ use lib.ListN.{length, getD, take, drop}
 use lib.Seq.{getD-drop}
 use Rattle.theory.specs.Systems.{Bisimulation}
 use Rattle.theory.specs.Transitions as transitions
+use Rattle.report.specs.declared.Labelled.the-variants as labelled
 use Rattle.report.specs.declared.Stage.the-variants as stage
 use Rattle.report.specs.declared.Verdict.the-variants.{Accepted}
 use Rattle.bits.specs.Bits.{Bytes}
@@ -19,7 +20,6 @@ use Rattle.expression.specs.Table as nodes
 use Rattle.expression.specs.Body.{bodyOf, chartOf}
 use Rattle.expression.proofs.Table as nodes′
 use Rattle.expression.proofs.Chart.{body-vertices, body-start, body-transitions}
-use Rattle.witness.specs.declared.Labelled.the-variants as labelled
 use Rattle.witness.specs.Labellings.{labelledOf, loopsOf}
 use Rattle.witness.proofs.Labellings.{labelled-iff-witness, labelled-number, labelled-loops, loops-number}
 use Rattle.bisimulation.specs.Relations.{relationOf}

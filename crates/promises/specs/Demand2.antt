@@ -11,6 +11,7 @@ use Rattle.theory.specs.Nodes.{expr, residual, meaning}
 use Rattle.theory.specs.Systems.{System, Bisimulation}
 use Rattle.theory.specs.Transitions as transitions
 use Rattle.theory.specs.Witnesses.{Witness, Connected}
+use Rattle.report.specs.declared.Labelled.the-variants as labelled
 use Rattle.report.specs.declared.Stage.the-variants as stage
 use Rattle.report.specs.declared.Written.the-variants as written
 use Rattle.chart.specs.Bodies.{verticesOf, startOf, countOf}
@@ -18,7 +19,6 @@ use Rattle.chart.specs.Checks as chart
 use Rattle.chart.specs.Steps.{transitionsOf, StepsOf}
 use Rattle.expression.specs.Table as nodes
 use Rattle.expression.specs.Body.{bodyOf, writtenOf, bufferOf}
-use Rattle.witness.specs.declared.Labelled.the-variants as labelled
 use Rattle.witness.specs.Labellings.{labelledOf}
 use Rattle.bisimulation.specs.Relations.{relatedTest, relationOf}
 

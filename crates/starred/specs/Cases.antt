@@ -8,7 +8,7 @@ use Rattle.report.specs.declared.Numbers.{Numbers}
 use Rattle.report.specs.Numbers.{four, verdictNumbers, writtenNumbers}
 use Rattle.expression.specs.Body.{writtenOf, bufferOf}
 use Rattle.witness.specs.Labellings.{labelledOf}
-use Rattle.verdict.specs.Verdicts.{counted, verdictOf}
+use Rattle.verdict.specs.Verdicts.{onLoops, accepted, verdictOf}
 
 pub data Case : Type 0 where
   -- the verdict on a yard file, as four numbers
@@ -29,7 +29,7 @@ sameBytes (x ∷ xs) (y ∷ ys) = eqb x y && sameBytes xs ys
 
 abbrev pub holds : Case → Bool
 holds (checks file answer) = sameNumbers (verdictNumbers (verdictOf file)) answer
-holds (labels body labelling answer) = sameNumbers (verdictNumbers (counted body (labelledOf body labelling))) answer
+holds (labels body labelling answer) = sameNumbers (verdictNumbers (onLoops (labelledOf body labelling) (accepted body))) answer
 holds (writes nodes lent answer left) = sameNumbers (writtenNumbers (writtenOf nodes (length lent))) answer && sameBytes (bufferOf nodes lent) left
 
 abbrev pub allHold : List Case → Bool

@@ -80,10 +80,6 @@ unfolding recordsOf
 records-from f h = rw (le-ltb 43536 (length f) h)
 
 -- ALL RECORDS
-pub both-passed : (a b : Stage) → andThen a b ≡ Passed → (a ≡ Passed) × (b ≡ Passed)
-both-passed Passed b e = (refl, e)
-both-passed (Refused p) b e = absurd (let z : _≡_ {A = ℕ} 0 1 = cc in omega arith)
-
 module _ (f : List ℕ) where
   one-more : (k : ℕ) → Before f k → Fits f (suc k) (offsetOf f k) → Before f (suc k)
   one-more k (s, b) g = (s, λ j h. below-more (λ (j : ℕ). Fits f (suc j) (offsetOf f j)) k b g j (omega arith))

@@ -1,4 +1,4 @@
--- The yard file (document 01): four records of kinds 1 to 4, nothing after; and the refusals 1 to 4, as a test that runs and by cases.
+-- The yard file: four records of kinds 1 to 4, nothing after; and the refusals 1 to 4, as a test that runs and by cases.
 use mathlib.Core.Bool.{cond}
 use mathlib.Core.List.{List, [], _∷_, _++_}
 use mathlib.Core.Path.{_≡_}
@@ -77,7 +77,9 @@ Before f k = (length f ≤ 43536) × ((j : ℕ) → j < k → Fits f (suc j) (of
 pub data RecordsChecked (f : List ℕ) : Stage → Type 0 where
   too-long : 43536 < length f → RecordsChecked f (Refused File)
   cut-header : (k : ℕ) → k < 4 → Before f k → length f < offsetOf f k + 4 → RecordsChecked f (Refused (Record (suc k)))
-  other-kind : (k : ℕ) → k < 4 → Before f k → offsetOf f k + 4 ≤ length f → pairAt f (offsetOf f k + 2) ≢ suc k → RecordsChecked f (Refused (RecordKind (suc k) (pairAt f (offsetOf f k + 2))))
-  cut-body : (k : ℕ) → k < 4 → Before f k → offsetOf f k + 4 ≤ length f → pairAt f (offsetOf f k + 2) ≡ suc k → length f < endAt f (offsetOf f k) → RecordsChecked f (Refused (Record (suc k)))
+  other-kind : (k : ℕ) → k < 4 → Before f k → offsetOf f k + 4 ≤ length f
+      → pairAt f (offsetOf f k + 2) ≢ suc k → RecordsChecked f (Refused (RecordKind (suc k) (pairAt f (offsetOf f k + 2))))
+  cut-body : (k : ℕ) → k < 4 → Before f k → offsetOf f k + 4 ≤ length f
+      → pairAt f (offsetOf f k + 2) ≡ suc k → length f < endAt f (offsetOf f k) → RecordsChecked f (Refused (Record (suc k)))
   bytes-after : Before f 4 → offsetOf f 4 < length f → RecordsChecked f (Refused (FileOffset (offsetOf f 4)))
   whole : Whole f → RecordsChecked f Passed

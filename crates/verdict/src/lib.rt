@@ -2,19 +2,15 @@
 ghost use mathlib.Core.Path.{_≡_};
 ghost use Prim.Native.Nat.{_+_, _*_, _≤_, _<_};
 ghost use lib.ListN.{length};
-ghost use Rattle.chart.specs.Bodies.{verticesOf, startOf};
-ghost use Rattle.chart.specs.Checks as chart·checks;
-ghost use Rattle.expression.specs.Table as expression·table;
 ghost use Rattle.expression.specs.Body.{bodyOf};
 ghost use Rattle.bisimulation.specs.Relations.{relationOf};
-ghost use Rattle.bisimulation.specs.Answers.{Related, Fits};
 ghost use Rattle.verdict.specs.Files.{pairAt, recordStage, recordsOf, offsetOf, bodyAt};
-ghost use Rattle.verdict.specs.Verdicts.{bodiesOf, labellingOf, loopsOf, verdictOf};
+ghost use Rattle.verdict.specs.Verdicts.{verdictOf, BothPass, ComeToPairs};
 use bits::byte;
+use report::Labelled;
 use report::Place;
 use report::Stage;
 use report::Verdict;
-use witness::Labelled;
 
 // A number of two bytes, the low one first.
 fn pair(file: &[u8], at: usize) -> usize
@@ -90,36 +86,9 @@ fn body(file: &[u8], k: usize) -> &[u8]
     &file[start..end]
 }
 
-// The refusals 1 to 4, 10 to 12, 20 and 21: the records, the nodes, the chart.
-fn check_bodies(file: &[u8]) -> Stage
-    ensures { λ r. ⌜ r ≡ bodiesOf (now (file .entry)) ⌝ }
-{
-    let stage = records(file);
-    let Stage::Passed = stage else {
-        return stage;
-    };
-    let stage = expression::check(body(file, 0));
-    let Stage::Passed = stage else {
-        return stage;
-    };
-    chart::check(body(file, 1))
-}
-
-// The refusals 30 to 35, or V, T and the number of loops.
-fn check_labelling(file: &[u8]) -> Verdict
-    requires { ⌜ bodiesOf (now file) ≡ Stage.Passed ⌝ }
-    ensures { λ r. ⌜ r ≡ labellingOf (now (file .entry)) ⌝ }
-{
-    let chart = body(file, 1);
-    match witness::check(chart, body(file, 2)) {
-        Labelled::Passed(loops) => Verdict::Accepted(byte(chart, 0), chart::count(chart), loops),
-        Labelled::Refused(place) => Verdict::Refused(place),
-    }
-}
-
 // The refusals 43 to 45, against the expression's chart, where 40 to 42 pass.
 fn check_pairs(nodes: &[u8], vertices: usize, chart: &[u8], relation: &[u8]) -> Stage
-    requires { ⌜ (expression·table.checkOf (now nodes) ≡ Stage.Passed) × (chart·checks.checkOf (now chart) ≡ Stage.Passed) × (vertices ≡ verticesOf (bodyOf (now nodes))) × (vertices ≤ 128) × Fits (bodyOf (now nodes)) (now chart) (now relation) × Related (now relation) (startOf (bodyOf (now nodes))) (startOf (now chart)) ⌝ }
+    requires { ⌜ ComeToPairs (now nodes) vertices (now chart) (now relation) ⌝ }
     ensures { λ r. ⌜ r ≡ relationOf (bodyOf (now (nodes .entry))) (now (chart .entry)) (now (relation .entry)) ⌝ }
 {
     let mut keys = [0usize; 128];
@@ -130,7 +99,7 @@ fn check_pairs(nodes: &[u8], vertices: usize, chart: &[u8], relation: &[u8]) -> 
 
 // The refusals 40 to 45, against the expression's chart, which is not written.
 fn check_relation(nodes: &[u8], chart: &[u8], relation: &[u8]) -> Stage
-    requires { ⌜ (expression·table.checkOf (now nodes) ≡ Stage.Passed) × (chart·checks.checkOf (now chart) ≡ Stage.Passed) ⌝ }
+    requires { ⌜ BothPass (now nodes) (now chart) ⌝ }
     ensures { λ r. ⌜ r ≡ relationOf (bodyOf (now (nodes .entry))) (now (chart .entry)) (now (relation .entry)) ⌝ }
 {
     let n = nodes.len() / 4;
@@ -141,29 +110,55 @@ fn check_relation(nodes: &[u8], chart: &[u8], relation: &[u8]) -> Stage
     check_pairs(nodes, n + 1, chart, relation)
 }
 
-// The refusals 30 to 45, or the counts.
-fn check_loops(file: &[u8]) -> Verdict
-    requires { ⌜ bodiesOf (now file) ≡ Stage.Passed ⌝ }
-    ensures { λ r. ⌜ r ≡ loopsOf (now (file .entry)) ⌝ }
+// A stage's refusal as the verdict's.
+fn refusal(stage: Stage) -> Verdict
+    requires { ⌜ ((p : Place) × (stage ≡ Stage.Refused p)) ⌝ }
+    ensures { λ r. ⌜ ((p : Place) → stage ≡ Stage.Refused p → r ≡ Verdict.Refused p) ⌝ }
 {
-    let verdict = check_labelling(file);
-    let Verdict::Accepted(_, _, _) = verdict else {
-        return verdict;
-    };
-    let stage = check_relation(body(file, 0), body(file, 1), body(file, 3));
-    let Stage::Refused(place) = stage else {
-        return verdict;
-    };
-    Verdict::Refused(place)
+    match stage {
+        Stage::Refused(place) => Verdict::Refused(place),
+        // `requires` rules it out
+        Stage::Passed => Verdict::Refused(Place::File),
+    }
+}
+
+// The labelling's refusal as the verdict's.
+fn unlabelled(labelled: Labelled) -> Verdict
+    requires { ⌜ ((p : Place) × (labelled ≡ Labelled.Refused p)) ⌝ }
+    ensures { λ r. ⌜ ((p : Place) → labelled ≡ Labelled.Refused p → r ≡ Verdict.Refused p) ⌝ }
+{
+    match labelled {
+        Labelled::Refused(place) => Verdict::Refused(place),
+        // `requires` rules it out
+        Labelled::Passed(_) => Verdict::Refused(Place::File),
+    }
 }
 
 // The verdict on a yard file: accepted with its vertices, transitions and loops, or the first check that fails.
 pub fn check(file: &[u8]) -> Verdict
     ensures { λ r. ⌜ r ≡ verdictOf (now (file .entry)) ⌝ }
 {
-    let stage = check_bodies(file);
-    let Stage::Refused(first) = stage else {
-        return check_loops(file);
+    let stage = records(file);
+    let Stage::Passed = stage else {
+        return refusal(stage);
     };
-    Verdict::Refused(first)
+    let nodes = body(file, 0);
+    let stage = expression::check(nodes);
+    let Stage::Passed = stage else {
+        return refusal(stage);
+    };
+    let chart = body(file, 1);
+    let stage = chart::check(chart);
+    let Stage::Passed = stage else {
+        return refusal(stage);
+    };
+    let labelled = witness::check(chart, body(file, 2));
+    let Labelled::Passed(loops) = labelled else {
+        return unlabelled(labelled);
+    };
+    let stage = check_relation(nodes, chart, body(file, 3));
+    let Stage::Passed = stage else {
+        return refusal(stage);
+    };
+    Verdict::Accepted(byte(chart, 0), chart::count(chart), loops)
 }

@@ -8,6 +8,7 @@ use Rattle.theory.specs.Witnesses.{Connected}
 use Rattle.theory.specs.Least.{Least}
 use Rattle.theory.specs.Checks.{Unreached, OnBranchCycle, all-pass, fails-31, fails-32, fails-loop}
 use Rattle.theory.proofs.Paths.{plus-below}
+use Rattle.report.specs.declared.Labelled.the-variants.{Passed, Refused}
 use Rattle.report.specs.declared.Place.{Place}
 use Rattle.report.specs.declared.Place.the-variants as place
 use Rattle.report.specs.declared.Stage.the-variants as stage
@@ -15,7 +16,6 @@ use Rattle.bits.specs.Bits.{Bytes}
 use Rattle.chart.specs.Bodies.{verticesOf, startOf, countOf, WellFormed}
 use Rattle.chart.specs.Steps.{StepsOf}
 use Rattle.chart.proofs.Relations.{steps-formed}
-use Rattle.witness.specs.declared.Labelled.the-variants.{Passed, Refused}
 use Rattle.witness.specs.Labellings.{loopsOf, labelledOf}
 use Rattle.witness.specs.Lowest.{Lowest}
 use Rattle.witness.specs.Answers.{LoopsSaid}

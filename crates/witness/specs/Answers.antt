@@ -3,10 +3,10 @@ use Prim.Native.Nat.{ℕ, _<_}
 use mathlib.Core.Path.{_≡_}
 use Rattle.theory.specs.Charts.{Steps, Loop}
 use Rattle.theory.specs.Checks.{LoopPasses, Outcome, LoopFails, EarlierPass}
+use Rattle.report.specs.declared.Labelled.the-variants as labelled
 use Rattle.report.specs.declared.Place.{Place}
 use Rattle.report.specs.declared.Stage.{Stage}
 use Rattle.report.specs.declared.Stage.the-variants.{Passed, Refused}
-use Rattle.witness.specs.declared.Labelled.the-variants as labelled
 use Rattle.witness.specs.Labellings.{answered}
 
 -- a check of the loop (v, l) fails, and p is its place

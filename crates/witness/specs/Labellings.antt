@@ -1,5 +1,5 @@
 -- The checks 30 to 35 of a labelling beside a chart body, as a test that runs.
-use mathlib.Core.Bool.{Bool, cond, _&&_}
+use mathlib.Core.Bool.{cond, _&&_}
 use mathlib.Core.List.{List}
 use Prim.Native.Nat.{ℕ}
 use lib.Dec.{eqb}
@@ -7,10 +7,10 @@ use lib.ListN.{length, getD}
 use Rattle.theory.specs.Checks.{Outcome, passes, unreached, branch-cycle, no-return, end-inside, not-lower}
 use Rattle.theory.specs.Tests.{someBelow}
 use Rattle.theory.specs.LabellingTests.{StepTest, loopList, outcome}
+use Rattle.report.specs.declared.Labelled.{Labelled}
+use Rattle.report.specs.declared.Labelled.the-variants.{Passed, Refused}
 use Rattle.report.specs.declared.Place.the-variants.{LabelsLength, Unreached, BranchCycle, LoopNoReturn, LoopEndInside, LoopNotLower}
 use Rattle.chart.specs.Bodies.{verticesOf, startOf, countOf, fromOf, toOf}
-use Rattle.witness.specs.declared.Labelled.{Labelled}
-use Rattle.witness.specs.declared.Labelled.the-variants.{Passed, Refused}
 
 -- some transition with the label l leads from u to w
 unfoldable pub stepTest : List ℕ → List ℕ → StepTest

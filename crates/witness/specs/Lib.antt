@@ -1,6 +1,8 @@
--- The definitions: the tests, then the contracts of the code's parts.
+-- The definitions. The meaning: what each answer of 30 to 35 says
+pub mod LabellingAnswers
+-- the test
 pub mod Labellings
-pub mod Meanings
+-- the contracts of the code's parts
 pub mod Lowest
 pub mod Given
 pub mod Answers

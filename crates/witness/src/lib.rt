@@ -8,6 +8,7 @@ use bits::byte;
 use loop_checks::loops_check;
 use reached::branch_cycle;
 use reached::unreached;
+use report::Labelled;
 use report::Place;
 use report::Stage;
 use tables::collect;
@@ -17,12 +18,6 @@ use tables::top_label;
 ghost use mathlib.Core.Path.{_≡_};
 ghost use Rattle.chart.specs.Checks.{checkOf};
 ghost use Rattle.witness.specs.Labellings.{labelledOf};
-
-// What the checks of a labelling say: the number of loops, or a refusal.
-pub enum Labelled {
-    Passed(usize),
-    Refused(Place),
-}
 
 // What 30 to 35 say of a labelling beside a chart body that 20 and 21 let pass.
 pub fn check(body: &[u8], labels: &[u8]) -> Labelled

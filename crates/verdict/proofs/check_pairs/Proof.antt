@@ -16,8 +16,8 @@ returns : tie.Need-returns
 returns c =
     let k = c .before .before .before .before .before .before .before .before .before in
     let n = k .args .nodes .now in
-    let p = body-passes n (λ i. omega (arith, c .before .before .before .before .before .before .before .before .shared-slice-known .given i)) (k .pre .0) in
-    c .check-pairs .ensures (bodyOf n) p (sym (k .pre .2)) (c .before .before .before .number-steps .ensures) (k .pre .4) (k .pre .5)
+    let p = body-passes n (λ i. omega (arith, c .before .before .before .before .before .before .before .before .shared-slice-known .given i)) (k .pre .both .0) in
+    c .check-pairs .ensures (bodyOf n) p (sym (k .pre .is-number)) (c .before .before .before .number-steps .ensures) (k .pre .fits) (k .pre .starts)
 
 pub check-pairs-spec : {M : Type 1} → statement M
 check-pairs-spec = tie.close (tie.spec number-steps-requires check-pairs-requires returns)

@@ -31,7 +31,7 @@ check-pairs-requires c κs =
     let k = c .before .before .before .before .before .before in
     let n = k .args .nodes .now in
     let (F, S) = c .before .before .opening .ensures .passed (c .enum-told .given .1) (bodyOf n) (nodes-vertices n) (nodes-start n) in
-    (k .pre .0, k .pre .1, sym (nodes-vertices n), nodes-few n (k .pre .0), F, S)
+    record { both = k .pre; is-number = sym (nodes-vertices n); few = nodes-few n (k .pre .0); fits = F; starts = S }
 
 returns-2 : tie.Need-returns-2
 returns-2 c = search needs
