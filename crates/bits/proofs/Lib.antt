@@ -5,3 +5,4 @@ pub mod Counts
 pub mod Packed
 pub mod Members
 pub mod Gains
+pub mod Determined

@@ -158,8 +158,8 @@ highest-low s r e H = record {
         let q : 64 + (w - 64) ≡ w = omega (arith, m) in
         zero-off (w - 64) (subst (λ (x : ℕ). On x (w - 64)) e (has-high s (w - 64) (omega (arith, m, h .below)) (subst (Has s) (sym q) h)))
 
--- ONE SET: words that have the same members are the same
-same-word : (x y : ℕ) → ((k : ℕ) → On x k ↔ On y k) → x ≡ y
+-- ONE SET: words that have the same bits are the same, and so are sets with the same members
+pub same-word : (x y : ℕ) → ((k : ℕ) → On x k ↔ On y k) → x ≡ y
 same-word x y f = let a = subset-le x y (λ k. f k .0) in let b = subset-le y x (λ k. f k .1) in omega arith
 
 same : (s t : Set) → s .lo ≡ t .lo → s .hi ≡ t .hi → s ≡ t

@@ -7,9 +7,10 @@ use native.Mathlib.Nat.{eq-or-lt-of-le, le-refl}
 use native.Mathlib.Decide.{decLe, decLt}
 use native.Mathlib.Omega.{arith}
 use lib.ListN.{length, getD, set, replicate, length-set, length-replicate}
-use lib.Seq.{getD-set-same, getD-set-other}
+use lib.Seq.{getD-set-same, getD-set-other, ext-getD}
 use borrow.Author.Count.{below-more}
 use Rattle.bits.specs.Bits.{Bytes}
+use Rattle.bits.proofs.Determined.{split-one}
 use Rattle.bits.proofs.Gains.{filled}
 use Rattle.chart.specs.Bodies.{verticesOf, countOf, fromOf, keyAt, WellFormed}
 use Rattle.bits.specs.First.{Split}
@@ -121,3 +122,7 @@ module _ {b r : List ℕ} (R : Begins b r) (u : ℕ) (l : u < 128) where
 
   pub begin-high : getD r (u + 1) 0 ≤ countOf b
   begin-high = R .split (u + 1) (omega arith) .within
+
+-- one answer
+pub begins-one : {b r t : List ℕ} → Begins b r → Begins b t → r ≡ t
+begins-one {b} {r} {t} R S = ext-getD 0 r t (R .long ∙ sym (S .long)) (λ i h. split-one (R .split i (omega (arith, R .long))) (S .split i (omega (arith, R .long))))

@@ -13,6 +13,7 @@ use Rattle.bits.specs.First.{First}
 use Rattle.bits.specs.Sets.{Has, emptySet, Empty, Members, Union, Difference, Last, sizeOf}
 use Rattle.bits.specs.Tables.{rowOf, HasRow, putRow, Words}
 use Rattle.bits.proofs.Members.{none, size-lt, has?}
+use Rattle.bits.proofs.Determined.{first-one}
 use Rattle.bits.proofs.Gains.{put-long, put-here, put-other, same-table}
 use Rattle.theory.specs.Paths.{Edges, Star, here, step, Plus, last, more, Avoid}
 use Rattle.theory.proofs.Paths.{star-then, star-snoc, star-map, plus-of, plus-snoc}
@@ -229,15 +230,6 @@ below-or : (v n : ℕ) → (v < n) ⊎ (n ≤ v)
 below-or v n = elim (decLt v n) [ yes h ↦ inl h | no h ↦ inr (omega (arith, h)) ]
 
 -- ONE ANSWER of `cycle`
-pub first-one : {P : ℕ → Type 0} {a n r t : ℕ} → First P a n r → First P a n t → r ≡ t
-first-one {P} {a} {n} {r} {t} F G = elim (ℕ-discrete r t) [ yes e ↦ e | no e ↦ absurd (apart e) ]
-  where
-    lower : {x y : ℕ} → First P a n x → First P a n y → ¬ (x < y)
-    lower {x} {y} A B h = B .before x (A .from) h (A .holds (omega (arith, h, B .within)))
-
-    apart : ¬ (r ≡ t) → ⊥
-    apart e = e (let p = lower F G in let q = lower G F in omega arith)
-
 pub cycles-one : {a before : List ℕ} {n r t : ℕ} {x y : List ℕ} → n ≤ 128 → Words x → Words y → Cycles a n before r x → Cycles a n before t y → (r ≡ t) × (x ≡ y)
 cycles-one {a} {before} {n} {r} {t} {x} {y} small W Z C D = (same, elim (ℕ-discrete r n) [ yes e ↦ whole e | no e ↦ C .cleared (inside e) ∙ sym (D .cleared (omega (arith, inside e, same))) ])
   where
