@@ -17,7 +17,7 @@ use Rattle.expression.specs.Table as nodes
 use Rattle.expression.specs.Body.{bodyOf, chartOf, writtenOf, bufferOf}
 use Rattle.expression.specs.Charts.{IsChart}
 use Rattle.expression.proofs.Table.{passed→well-formed, tree}
-use Rattle.expression.proofs.Chart.{body-start, body-transitions, passed-chart, length-says}
+use Rattle.expression.proofs.Chart.{body-vertices, body-start, body-transitions, passed-chart, length-says}
 use Rattle.witness.proofs.Labellings.{labelled-iff-witness}
 use Rattle.bisimulation.proofs.Relations.{relation-iff-bisimulation}
 use Rattle.promises.specs.Demand2.{ExactSteps, WritesTheChart, LabellingPasses, RelationPasses}
@@ -36,6 +36,12 @@ module _ (s : List ℕ) (passed : nodes.checkOf s ≡ stage.Passed) where
       (λ (t, m, e). subst (Step (residual (nodes.node s) (nodes.count s) k) a) e (chart-of .steps k a t (rw body-transitions at m) .1)),
     );
     vertices = λ u a t m. vertex-of u a t (rw body-transitions at m);
+    targets = λ u a t m.
+        let b = chart-of .fits (u, a, t) (rw body-transitions at m) in
+        let v = body-vertices s in
+        omega arith;
+    size = body-vertices s;
+    ascend = rw body-transitions (chart-of .ascend);
     start = λ k e. (body-start s ∙ e, residual-of-start (nodes.node s) (nodes.count s) (tree s (passed→well-formed s passed)) k e);
   }
 
