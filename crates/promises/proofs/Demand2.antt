@@ -1,20 +1,16 @@
 -- Demand 2, proved.
-use mathlib.Core.Path.{_≡_, refl, sym, _∙_, ap, subst}
-use mathlib.Core.Logic.{_↔_}
-use mathlib.Core.List.{List, _++_, List·Memᴰ}
-use Prim.Native.Nat.{ℕ, suc, _-_, _<_, _≤_}
+use mathlib.Core.Path.{_≡_, sym, _∙_, subst}
+use mathlib.Core.List.{List, List·Memᴰ}
+use Prim.Native.Nat.{ℕ, suc, _-_, _<_}
 use native.Mathlib.Omega.{arith}
-use lib.ListN.{length, drop}
-use Rattle.theory.specs.Expressions.{Target, Step}
-use Rattle.theory.specs.Nodes.{expr, residual, meaning}
+use Rattle.theory.specs.Expressions.{Step}
+use Rattle.theory.specs.Nodes.{residual}
 use Rattle.theory.proofs.ExpressionCharts.{residual-of-start}
 use Rattle.report.specs.declared.Stage.the-variants as stage
-use Rattle.report.specs.declared.Written.the-variants as written
 use Rattle.bits.specs.Bits.{Bytes}
 use Rattle.chart.specs.Checks as chart
-use Rattle.chart.specs.Steps.{transitionsOf}
 use Rattle.expression.specs.Table as nodes
-use Rattle.expression.specs.Body.{bodyOf, chartOf, writtenOf, bufferOf}
+use Rattle.expression.specs.Body.{bodyOf, chartOf}
 use Rattle.expression.specs.Charts.{IsChart}
 use Rattle.expression.proofs.Table.{passed→well-formed, tree}
 use Rattle.expression.proofs.Chart.{body-vertices, body-start, body-transitions, passed-chart, length-says}

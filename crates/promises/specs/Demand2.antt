@@ -16,10 +16,9 @@ use Rattle.theory.specs.Witnesses.{Witness, Connected}
 use Rattle.report.specs.declared.Stage.the-variants as stage
 use Rattle.report.specs.declared.Written.the-variants as written
 use Rattle.chart.specs.Bodies.{verticesOf, startOf, countOf}
-use Rattle.chart.specs.Checks as chart
 use Rattle.chart.specs.Steps.{transitionsOf, StepsOf}
 use Rattle.expression.specs.Table as nodes
-use Rattle.expression.specs.Body.{bodyOf, writtenOf, bufferOf}
+use Rattle.expression.specs.Body.{writtenOf, bufferOf}
 use Rattle.witness.specs.declared.Labelled.the-variants as labelled
 use Rattle.witness.specs.Labellings.{labelledOf}
 use Rattle.bisimulation.specs.Relations.{relatedTest, relationOf}

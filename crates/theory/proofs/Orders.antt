@@ -1,22 +1,22 @@
 -- Orders of all loops: one exists, and each runs through, leaves exactly the branches, and then no vertex has an infinite path.
-use mathlib.Core.Path.{_≡_, refl, sym, _∙_, ap, subst}
-use mathlib.Core.Logic.{_≢_, _⊎_, inl, inr, ⊎-elim, _↔_, Iff·rfl}
+use mathlib.Core.Path.{_≡_, refl, ap, subst}
+use mathlib.Core.Logic.{_≢_, inl, ⊎-elim, _↔_, Iff·rfl}
 use mathlib.Core.Bool.{Bool}
 use mathlib.Core.List.{List, [], _∷_, map, List·Memᴰ, List·Memᴰ·head, List·Memᴰ·tail, List·Memᴰ·cases-cons, List·Memᴰ·not-nil, Memᴰ·map, Memᴰ·of-map}
 use Prim.Native.Nat.{ℕ, _<_}
-use Rattle.theory.specs.Paths.{Star, Plus, Endless}
+use Rattle.theory.specs.Paths.{Plus, Endless}
 use Rattle.theory.specs.Charts.{Steps, Formed, Listed, Any, Branch, Loop}
 use Rattle.theory.specs.LoopCharts.{InLoop}
 use Rattle.theory.specs.Checks.{Passed}
-use Rattle.theory.specs.Standing.{Loops, Standing, Agree, Inside}
-use Rattle.theory.specs.Removals.{Answer, done, Removes, Plain, left-steps, left-loops, RemovesAll, PlainAll, all-done}
-use Rattle.theory.specs.Orders.{Distinct, Before, Order}
+use Rattle.theory.specs.Standing.{Loops, Agree, Inside}
+use Rattle.theory.specs.Removals.{Answer, done, Plain, left-loops, RemovesAll, PlainAll, all-done}
+use Rattle.theory.specs.Orders.{Pair, Distinct, Before, Order}
 use Rattle.theory.proofs.Paths.{plus-star, endless-map}
 use Rattle.theory.proofs.Checks.{passed-no-endless}
 use Rattle.theory.specs.Tests.{Decides, pairs}
 use Rattle.theory.specs.LabellingTests.{loopTest}
 use Rattle.theory.proofs.LabellingTests.{decides-loop, listed-test, listed-tests}
-use Rattle.theory.proofs.Pairs.{Pair, before-cases, before-second, before-map, distinct-cons, distinct-map, pairs→, pairs←, pairs-distinct, pairs-before}
+use Rattle.theory.proofs.Pairs.{before-cases, before-second, before-map, distinct-cons, distinct-map, pairs→, pairs←, pairs-distinct, pairs-before}
 use Rattle.theory.proofs.Removals.{agree-at-first, agree-same, rule-of, left-agree, left-loops-are, removals-agree}
 
 -- EACH ORDER RUNS THROUGH

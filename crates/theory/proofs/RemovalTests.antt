@@ -1,17 +1,17 @@
 -- The tests of a removal give the answers of the rule and of the plain set; so every list of calls has answers.
 use mathlib.Core.Path.{_≡_, refl}
-use mathlib.Core.Logic.{_≢_, _⊎_, inl, inr, ⊎-elim, _↔_, Iff·rfl}
-use mathlib.Core.Bool.{Bool, true, false, cond, _&&_, _||_, not}
+use mathlib.Core.Logic.{_⊎_, _↔_, Iff·rfl}
+use mathlib.Core.Bool.{Bool, true, false, cond, _||_, not}
 use mathlib.Core.List.{List, [], _∷_}
 use Prim.Native.Nat.{ℕ, _<_}
 use native.Mathlib.Decide.{ℕ-discrete}
-use Rattle.theory.specs.Paths.{Star, Plus, Avoid, Endless, Returns}
+use Rattle.theory.specs.Paths.{Endless, Returns}
 use Rattle.theory.specs.Charts.{Steps, Formed, Listed, Any, Loop}
-use Rattle.theory.specs.LoopCharts.{InLoop, Around, LoopChart, Reached, Stray}
+use Rattle.theory.specs.LoopCharts.{Around, Reached, Stray}
 use Rattle.theory.specs.Standing.{Loops, DecidedLoops, Inside}
 use Rattle.theory.specs.Removals.{Answer, done, refused-51, refused-52, Removes, Plain, left-steps, left-loops, RemovesAll, PlainAll}
-use Rattle.theory.specs.Tests.{Decides, someBelow}
-use Rattle.theory.specs.LabellingTests.{StepTest, anyTest, loopTest, bodyTest}
+use Rattle.theory.specs.Tests.{Decides}
+use Rattle.theory.specs.LabellingTests.{StepTest, loopTest}
 use Rattle.theory.specs.RemovalTests.{aroundTest, strayTest, ruleAnswer, insideTest, plainAnswer}
 use Rattle.theory.proofs.Paths.{plus-below}
 use Rattle.theory.proofs.Tests.{decides-dec, test-of, not-so, decides-same, decides-and, decides-or, decides-not, decides-eqb, decides-below}

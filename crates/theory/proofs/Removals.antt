@@ -1,15 +1,15 @@
 -- A list of removals over a chart that passed answers, and leaves, what the plain set does.
 use mathlib.Core.Path.{_≡_, refl, sym, _∙_, ap₂, subst}
-use mathlib.Core.Logic.{_≢_, _⊎_, inl, inr, ⊎-elim, _↔_, Iff·symm, Iff·trans}
-use mathlib.Core.List.{List, [], _∷_}
-use Prim.Native.Nat.{ℕ, zero, suc, _<_}
+use mathlib.Core.Logic.{_⊎_, inl, inr, ⊎-elim, _↔_, Iff·symm, Iff·trans}
+use mathlib.Core.List.{List, _∷_}
+use Prim.Native.Nat.{ℕ}
 use native.Mathlib.Omega.{arith}
 use native.Mathlib.Decide.{ℕ-discrete}
 use Rattle.theory.specs.Paths.{Star, Endless, Returns}
-use Rattle.theory.specs.Charts.{Steps, SameSteps, Formed, Any, Loop}
-use Rattle.theory.specs.LoopCharts.{Around, LoopChart}
+use Rattle.theory.specs.Charts.{Steps, SameSteps, Formed, Loop}
+use Rattle.theory.specs.LoopCharts.{Around}
 use Rattle.theory.specs.Checks.{Passed}
-use Rattle.theory.specs.Standing.{Loops, SameLoops, Standing, Agree, Inside}
+use Rattle.theory.specs.Standing.{Loops, SameLoops, Standing, Agree}
 use Rattle.theory.specs.Removals.{Answer, done, refused-51, refused-52, Removes, Plain, left-steps, left-loops, RemovesAll, PlainAll}
 use Rattle.theory.proofs.Paths.{endless-map}
 use Rattle.theory.proofs.Rounds.{round-map, loop-chart-map}
