@@ -6,5 +6,6 @@ pub mod Reached
 pub mod Marks
 pub mod Words
 pub mod Steps
+pub mod Standing
 pub mod Sets
 pub mod Numbered
