@@ -6,3 +6,4 @@ pub mod Parts
 pub mod Searches
 pub mod Kept
 pub mod Relations
+pub mod Standing

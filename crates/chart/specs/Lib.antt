@@ -5,5 +5,6 @@ pub mod Checks
 pub mod Leaving
 pub mod Codes
 pub mod Steps
+pub mod Standing
 pub mod Sets
 pub mod Numbered

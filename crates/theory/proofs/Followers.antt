@@ -7,7 +7,7 @@ use mathlib.Core.List.{List, _∷_, List·Memᴰ, List·Memᴰ·not-nil, List·M
 use native.Mathlib.Omega.{arith}
 use lib.Dec.{ltb}
 use lib.ListN.{length}
-use Rattle.theory.specs.Systems.{System, Bisimulation}
+use Rattle.theory.specs.Systems.{System, Bisimulation, Lift}
 use Rattle.theory.specs.Followers.{Call, Word, taken, not-possible, Answer, answer, refused-53, Members, Some, Next, Offered, Counted, Told, Moves, restarts, takes, keeps, refuses, Follows, none, call, Fresh}
 use Rattle.theory.proofs.Ascending.{one-list, ltb-order}
 
@@ -29,10 +29,7 @@ counted-one c d s = sym (c .many) ∙ ap length which-same ∙ d .many
 counted-same : {P Q : ℕ → Type 0} {n : ℕ} → ((a : ℕ) → P a ↔ Q a) → Counted P n → Counted Q n
 counted-same s c = record { which = c .which; ascend = c .ascend; exactly = λ a. Iff·trans (c .exactly a) (s a); many = c .many }
 
--- each member of P is related to one of Q, and each of Q to one of P
-abbrev pub Lift : {A B : Type 0} → (A → B → Type 0) → (A → Type 0) → (B → Type 0) → Type 0
-Lift {A} {B} R P Q = ((x : A) → P x → (y : B) × Q y × R x y) × ((y : B) → Q y → (x : A) × P x × R x y)
-
+-- LIFTED to sets of states
 pub lift-equal : {A : Type 0} {P Q : A → Type 0} → ((x : A) → P x ↔ Q x) → Lift _≡_ P Q
 lift-equal s = (λ x p. (x, s x .0 p, refl), λ x q. (x, s x .1 q, refl))
 

@@ -1,14 +1,14 @@
 -- Tests put together decide statements put together.
 use mathlib.Core.Path.{_≡_, refl, sym, _∙_, subst}
-use mathlib.Core.Logic.{_≢_, _⊎_, inl, inr, ⊎-elim, _↔_}
+use mathlib.Core.Logic.{_⊎_, inl, inr, ⊎-elim, _↔_}
 use mathlib.Core.Bool.{Bool, true, false, cond, _&&_, _||_, not, false≢true}
-use Prim.Native.Nat.{ℕ, zero, suc, _+_, _≤_, _<_}
+use Prim.Native.Nat.{ℕ, zero, suc, _≤_, _<_}
 use native.Mathlib.Omega.{arith}
 use native.Mathlib.Decide.{ℕ-discrete}
 use lib.Dec.{eqb, ltb, leb}
 use borrow.Author.Tests.{eqb-true, eq-eqb, ltb-true, lt-ltb, leb-true, le-leb}
-use Rattle.theory.specs.Least.{Least, Earlier, FirstPair}
-use Rattle.theory.specs.Tests.{Decides, someBelow, lowest, firstRow}
+use Rattle.theory.specs.Least.{Least, FirstPair}
+use Rattle.theory.specs.Tests.{Decides, someBelow, lowest, Stops, firstRow}
 
 pub decided : {b : Bool} {P : Type 0} → Decides b P → Dec P
 decided {b} {P} d = go b d
@@ -105,13 +105,6 @@ decides-below {p} {P} d (suc n) = decides-same (to, from) (decides-or (d n) (dec
 
     from : (k : ℕ) × (k < suc n) × P k → P n ⊎ ((k : ℕ) × (k < n) × P k)
     from (k, h, q) = elim (ℕ-discrete k n) [ yes e ↦ inl (subst P e q) | no e ↦ inr (k, omega arith, q) ]
-
--- where the search stops: at the lowest that passes, or past all of them
-pub record Stops (p : ℕ → Bool) (i n r : ℕ) : Type 0 where
-  pub from : i ≤ r
-  pub within : r ≤ i + n
-  pub passes : r < i + n → p r ≡ true
-  pub below : (k : ℕ) → i ≤ k → k < r → p k ≡ false
 
 pub lowest-stops : (p : ℕ → Bool) (i n : ℕ) → Stops p i n (lowest p i n)
 unfolding lowest

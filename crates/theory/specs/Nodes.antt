@@ -1,6 +1,6 @@
 -- A table of nodes as a function from a node's number to what stands there; what is read off it by going down (the
 -- expression of a node, its first actions) and by climbing (what remains after a node).
-use Prim.Native.Nat.{ℕ, zero, suc, _+_, _<_}
+use Prim.Native.Nat.{ℕ, zero, suc, _+_, _<_, _≤_}
 use mathlib.Core.Path.{_≡_}
 use mathlib.Core.Bool.{Bool, true, false, cond}
 use mathlib.Core.List.{List, [], _∷_, _++_, map, foldl}
@@ -125,7 +125,25 @@ abbrev pub meaning : (ℕ → Node) → ℕ → ℕ → Target
 meaning nd n zero = end
 meaning nd n (suc k) = to (residual nd n k)
 
--- a table of n nodes in which operands are lower than the node and every node but the last is an operand exactly once
+-- the relation of a vertex to what it stands for
+abbrev pub Means : (ℕ → Node) → ℕ → ℕ → Target → Type 0
+Means nd n v ξ = (v ≤ n) × (meaning nd n v ≡ ξ)
+
+-- LEAVES. Node j is below n and does an action; an action that some leaf does
+abbrev pub IsLeaf : (ℕ → Node) → ℕ → ℕ → Type 0
+IsLeaf nd n j = (a : ℕ) × (nd j ≡ leaf a) × (j < n)
+
+abbrev pub LeafAction : (ℕ → Node) → ℕ → ℕ → Type 0
+LeafAction nd n a = (j : ℕ) × (j < n) × (nd j ≡ leaf a)
+
+-- w at a leaf, 0 elsewhere
+abbrev pub atLeaf : Node → ℕ → ℕ
+atLeaf bad w = 0
+atLeaf dead w = 0
+atLeaf (leaf a) w = w
+atLeaf (bin o l r) w = 0
+
+-- TREES. A table of n nodes in which operands are lower than the node and every node but the last is an operand exactly once
 pub record Tree (nd : ℕ → Node) (n : ℕ) : Type 0 where
   pub low : (k : ℕ) (o : Op) (l r : ℕ) → k < n → nd k ≡ bin o l r → (l < k) × (r < k)
   pub once : (j : ℕ) → suc j < n → uses nd n j ≡ 1

@@ -16,3 +16,7 @@ pub record Bisimulation (M N : System) (R : M .State → N .State → Type 0) : 
   pub ends : (x : M .State) (y : N .State) → R x y → M .End x ↔ N .End y
   pub forth : (x : M .State) (y : N .State) → R x y → (a : ℕ) (x′ : M .State) → M .Step x a x′ → (y′ : N .State) × N .Step y a y′ × R x′ y′
   pub back : (x : M .State) (y : N .State) → R x y → (a : ℕ) (y′ : N .State) → N .Step y a y′ → (x′ : M .State) × M .Step x a x′ × R x′ y′
+
+-- a relation between states, lifted to sets of them: each member of P is related to one of Q, and each of Q to one of P
+abbrev pub Lift : {A B : Type 0} → (A → B → Type 0) → (A → Type 0) → (B → Type 0) → Type 0
+Lift {A} {B} R P Q = ((x : A) → P x → (y : B) × Q y × R x y) × ((y : B) → Q y → (x : A) × P x × R x y)
