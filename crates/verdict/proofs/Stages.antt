@@ -36,14 +36,14 @@ pub chart-long : (b : List ℕ) → chart.checkOf b ≡ stage.Passed → 4 ≤ l
 chart-long b e = well-formed b e .header .long
 
 -- WHAT A STAGE ANSWERS of bytes that are bodies of the file
-pub stage-of : (check : List ℕ → Stage) {x y : List ℕ} {s t : Stage} → x ≡ y → s ≡ check x → s ≡ t → check y ≡ t
-stage-of check q e h = ap check (sym q) ∙ sym e ∙ h
+pub stage-in : (check : List ℕ → Stage) {x y : List ℕ} {s t : Stage} → x ≡ y → s ≡ check x → s ≡ t → check y ≡ t
+stage-in check q e h = ap check (sym q) ∙ sym e ∙ h
 
 module _ (f : List ℕ) {b : List ℕ} (j : b ≡ chartIn f) where
-  pub labelling-of : {l : List ℕ} {s t : Labelled} → l ≡ labelsIn f → s ≡ labelledOf b l → s ≡ t
+  pub labelling-in : {l : List ℕ} {s t : Labelled} → l ≡ labelsIn f → s ≡ labelledOf b l → s ≡ t
       → labelledOf (chartIn f) (labelsIn f) ≡ t
-  labelling-of k e h = rw (← j, ← k, ← e) h
+  labelling-in k e h = rw (← j, ← k, ← e) h
 
-  pub relation-of : {n r : List ℕ} {s t : Stage} → n ≡ nodesIn f → r ≡ relationIn f → s ≡ relationOf (bodyOf n) b r → s ≡ t
+  pub relation-in : {n r : List ℕ} {s t : Stage} → n ≡ nodesIn f → r ≡ relationIn f → s ≡ relationOf (bodyOf n) b r → s ≡ t
       → relationOf (bodyOf (nodesIn f)) (chartIn f) (relationIn f) ≡ t
-  relation-of i k e h = rw (← i, ← j, ← k, ← e) h
+  relation-in i k e h = rw (← i, ← j, ← k, ← e) h

@@ -4,7 +4,7 @@ use Rattle.chart.specs.Bodies.{verticesOf, countOf}
 use Rattle.chart.specs.Checks as chart
 use Rattle.expression.specs.Table as expression
 use Rattle.verdict.specs.Verdicts.{records-fail, nodes-fail, chart-fails, labels-fail, relation-fails}
-use Rattle.verdict.proofs.Stages.{chart-long, stage-of, labelling-of, relation-of}
+use Rattle.verdict.proofs.Stages.{chart-long, stage-in, labelling-in, relation-in}
 use Rattle.verdict.proofs.Verdicts.{accepted-iff, fails-refused}
 use borrow.Author.Needs.{needs}
 use Rattle.verdict.proofs.check.Statement.{statement}
@@ -54,7 +54,7 @@ returns-2 c =
     let a = k .before .before in
     let R = sym (a .before .before .records .ensures) ∙ a .enum-told .given .1 in
     let h = t .enum-told4 .given .1 in
-    let N = stage-of expression.checkOf (k .before .body .ensures) (k .check .ensures) h in
+    let N = stage-in expression.checkOf (k .before .body .ensures) (k .check .ensures) h in
     c .refusal2 .ensures _ h ∙ sym (fails-refused _ (nodes-fail R N))
 
 body-requires-2 : tie.Need-body-requires-2
@@ -83,9 +83,9 @@ returns-3 c =
     let k = b .before .before in
     let a = k .before .before in
     let R = sym (a .before .before .records .ensures) ∙ a .enum-told .given .1 in
-    let N = stage-of expression.checkOf (k .before .body .ensures) (k .check .ensures) (b .enum-told3 .given .1) in
+    let N = stage-in expression.checkOf (k .before .body .ensures) (k .check .ensures) (b .enum-told3 .given .1) in
     let h = d .enum-told6 .given .1 in
-    let C = stage-of chart.checkOf (m .before .body2 .ensures) (m .check2 .ensures) h in
+    let C = stage-in chart.checkOf (m .before .body2 .ensures) (m .check2 .ensures) h in
     c .refusal3 .ensures _ h ∙ sym (fails-refused _ (chart-fails R N C))
 
 body-requires-3 : tie.Need-body-requires-3
@@ -116,10 +116,10 @@ returns-4 c =
     let k = b .before .before in
     let a = k .before .before in
     let R = sym (a .before .before .records .ensures) ∙ a .enum-told .given .1 in
-    let N = stage-of expression.checkOf (k .before .body .ensures) (k .check .ensures) (b .enum-told3 .given .1) in
-    let C = stage-of chart.checkOf (m .before .body2 .ensures) (m .check2 .ensures) (d .enum-told5 .given .1) in
+    let N = stage-in expression.checkOf (k .before .body .ensures) (k .check .ensures) (b .enum-told3 .given .1) in
+    let C = stage-in chart.checkOf (m .before .body2 .ensures) (m .check2 .ensures) (d .enum-told5 .given .1) in
     let h = t .enum-told7 .given .1 in
-    let L = labelling-of _ (m .before .body2 .ensures) (w .before .body3 .ensures) (w .check3 .ensures) h in
+    let L = labelling-in _ (m .before .body2 .ensures) (w .before .body3 .ensures) (w .check3 .ensures) h in
     c .unlabelled .ensures _ h ∙ sym (fails-refused _ (labels-fail R N C L))
 
 body-requires-4 : tie.Need-body-requires-4
@@ -158,11 +158,11 @@ returns-5 c =
     let k = b .before .before in
     let a = k .before .before in
     let R = sym (a .before .before .records .ensures) ∙ a .enum-told .given .1 in
-    let N = stage-of expression.checkOf (k .before .body .ensures) (k .check .ensures) (b .enum-told3 .given .1) in
-    let C = stage-of chart.checkOf (m .before .body2 .ensures) (m .check2 .ensures) (d .enum-told5 .given .1) in
-    let L = labelling-of _ (m .before .body2 .ensures) (w .before .body3 .ensures) (w .check3 .ensures) (e .before .labelled .given .1) in
+    let N = stage-in expression.checkOf (k .before .body .ensures) (k .check .ensures) (b .enum-told3 .given .1) in
+    let C = stage-in chart.checkOf (m .before .body2 .ensures) (m .check2 .ensures) (d .enum-told5 .given .1) in
+    let L = labelling-in _ (m .before .body2 .ensures) (w .before .body3 .ensures) (w .check3 .ensures) (e .before .labelled .given .1) in
     let h = t .enum-told9 .given .1 in
-    let B = relation-of _ (m .before .body2 .ensures) (k .before .body .ensures) (r .before .body4 .ensures) (r .check-relation .ensures) h in
+    let B = relation-in _ (m .before .body2 .ensures) (k .before .body .ensures) (r .before .body4 .ensures) (r .check-relation .ensures) h in
     c .refusal4 .ensures _ h ∙ sym (fails-refused _ (relation-fails R N C L B))
 
 byte-requires : tie.Need-byte-requires
@@ -187,11 +187,11 @@ returns-6 c =
     let k = b .before .before in
     let a = k .before .before in
     let R = sym (a .before .before .records .ensures) ∙ a .enum-told .given .1 in
-    let N = stage-of expression.checkOf (k .before .body .ensures) (k .check .ensures) (b .enum-told3 .given .1) in
-    let C = stage-of chart.checkOf (m .before .body2 .ensures) (m .check2 .ensures) (d .enum-told5 .given .1) in
-    let L = labelling-of _ (m .before .body2 .ensures) (w .before .body3 .ensures) (w .check3 .ensures) (e .before .labelled .given .1) in
+    let N = stage-in expression.checkOf (k .before .body .ensures) (k .check .ensures) (b .enum-told3 .given .1) in
+    let C = stage-in chart.checkOf (m .before .body2 .ensures) (m .check2 .ensures) (d .enum-told5 .given .1) in
+    let L = labelling-in _ (m .before .body2 .ensures) (w .before .body3 .ensures) (w .check3 .ensures) (e .before .labelled .given .1) in
     let h = g .enum-told8 .given .1 in
-    let B = relation-of _ (m .before .body2 .ensures) (k .before .body .ensures) (r .before .body4 .ensures) (r .check-relation .ensures) h in
+    let B = relation-in _ (m .before .body2 .ensures) (k .before .body .ensures) (r .before .body4 .ensures) (r .check-relation .ensures) h in
     let v = c .before .byte .ensures .0 ∙ ap verticesOf (m .before .body2 .ensures) in
     let t = c .count .ensures .0 ∙ ap countOf (m .before .body2 .ensures) in
     sym (accepted-iff _ _ _ _ .1 (R, N, C, L, B, v, t))
