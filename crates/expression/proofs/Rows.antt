@@ -1,19 +1,114 @@
--- One rank more, one vertex more, four bytes more: what a turn of each loop of the sweeps does.
-use Prim.Native.Nat.{ℕ, zero, suc, _+_, _-_, _*_, _/_, _%_, _<_, _≤_}
+-- The bits of a word in turn, and the transitions and bytes that they are: what a turn of each loop does.
+use Prim.Native.Nat.{ℕ, zero, suc, _+_, _-_, _*_, _/_, _%_, _^_, _<_, _≤_}
 use mathlib.Core.Path.{_≡_, refl, ap, sym, _∙_}
 use mathlib.Core.Bool.{Bool, true, false, cond}
-use mathlib.Core.List.{List, [], _∷_, _++_, map, append-assoc}
+use mathlib.Core.Logic.{⊎-elim}
+use mathlib.Core.List.{List, [], _∷_, _++_, map, append-assoc, List·Memᴰ, List·Memᴰ·head, List·Memᴰ·tail, List·Memᴰ·not-nil, List·Memᴰ·cases-cons, List·Memᴰ·append-cases, List·Memᴰ·eq-of-singleton, Memᴰ·append-left, Memᴰ·append-right}
 use native.Mathlib.Numerals.{add-one}
-use native.Mathlib.Nat.{sub-zero}
+use native.Mathlib.Nat.{sub-zero, mod-lt, eq-or-lt-of-le, le-of-suc-le-suc}
+use native.Mathlib.Decide.{decLt, ℕ-discrete}
 use native.Mathlib.Omega.{arith}
-use lib.Dec.{eqb}
+use lib.Dec.{eqb, ltb}
 use lib.ListN.{length, getD, set, length-append, length-map}
 use lib.Seq.{sets, length-sets}
-use borrow.Author.Tests.{eq-eqb, ne-eqb}
-use Rattle.theory.specs.Nodes.{one}
+use borrow.Author.Tests.{eqb-true, eqb-false, eq-eqb, lt-ltb}
+use Rattle.bits.specs.Words.{On, LowestOn, Without}
+use Rattle.bits.specs.Counts.{bitsBelow}
+use Rattle.theory.specs.Ascending.{Below, Ascending}
 use Rattle.theory.specs.Transitions.{Transition}
-use Rattle.expression.specs.Body.{fourOf, flat}
-use Rattle.expression.specs.Sweep.{marksOf, picks, rowOf, rows, sweep, sweepCount, markOf, Stored}
+use Rattle.theory.proofs.Ascending.{one-list, ltb-order}
+use Rattle.expression.specs.Body.{fourOf, flat, headOf}
+use Rattle.expression.specs.Listing.{bitsOf, rowOf, rows, listing, bitsFrom, KeysFit, Stored}
+use Rattle.expression.proofs.WordLaws.{off}
+
+-- LISTS IN ORDER
+below-all : {A : Type 0} (less : A → A → Bool) (x : A) (l : List A) → ((y : A) → List·Memᴰ y l → less x y ≡ true) → Below less x l
+below-all less x [] h = tt
+below-all less x (y ∷ l) h = h y (List·Memᴰ·head refl)
+
+pub append-ascends : {A : Type 0} (less : A → A → Bool) (xs ys : List A) → Ascending less xs → Ascending less ys
+    → ((x y : A) → List·Memᴰ x xs → List·Memᴰ y ys → less x y ≡ true) → Ascending less (xs ++ ys)
+append-ascends less [] ys a b h = b
+append-ascends less (x ∷ []) ys a b h = (below-all less x ys (λ y m. h x y (List·Memᴰ·head refl) m), b)
+append-ascends less (x ∷ z ∷ xs) ys a b h = (a .0, append-ascends less (z ∷ xs) ys (a .1) b (λ u y p q. h u y (List·Memᴰ·tail p) q))
+
+-- THE BITS OF A WORD
+pub bits→ : (x k i : ℕ) → List·Memᴰ i (bitsOf x k) → (i < k) × On x i
+unfolding bitsOf
+bits→ x zero i m = absurd (List·Memᴰ·not-nil m)
+bits→ x (suc k) i m = ⊎-elim (λ p. let r = bits→ x k i p in (omega (arith, r .0), r .1)) (last (eqb (x / 2 ^ k % 2) 1) refl) (List·Memᴰ·append-cases (bitsOf x k) m)
+  where
+    last : (b : Bool) → eqb (x / 2 ^ k % 2) 1 ≡ b → List·Memᴰ i (cond b (k ∷ []) []) → (i < suc k) × On x i
+    last true e p = let q : i ≡ k = List·Memᴰ·eq-of-singleton p in (omega arith, rw q (eqb-true _ 1 e))
+    last false e p = absurd (List·Memᴰ·not-nil p)
+
+pub bits← : (x k i : ℕ) → i < k → On x i → List·Memᴰ i (bitsOf x k)
+unfolding bitsOf
+bits← x zero i h on = absurd (omega arith)
+bits← x (suc k) i h on = ⊎-elim
+    (λ (e : i ≡ k). Memᴰ·append-right (bitsOf x k) (last e))
+    (λ (q : i < k). Memᴰ·append-left (cond (eqb (x / 2 ^ k % 2) 1) (k ∷ []) []) (bits← x k i q on))
+    (eq-or-lt-of-le (le-of-suc-le-suc h))
+  where
+    last : i ≡ k → List·Memᴰ i (cond (eqb (x / 2 ^ k % 2) 1) (k ∷ []) [])
+    last e = rw (eq-eqb (x / 2 ^ k % 2) 1 (rw e at on)) (List·Memᴰ·head e)
+
+pub bits-ascend : (x k : ℕ) → Ascending ltb (bitsOf x k)
+unfolding bitsOf
+bits-ascend x zero = tt
+bits-ascend x (suc k) =
+    append-ascends ltb (bitsOf x k) (cond (eqb (x / 2 ^ k % 2) 1) (k ∷ []) []) (bits-ascend x k) (last (eqb (x / 2 ^ k % 2) 1))
+    (λ i j p q. lt-ltb i j (omega (arith, bits→ x k i p .0, is-last (eqb (x / 2 ^ k % 2) 1) j q)))
+  where
+    last : (b : Bool) → Ascending ltb (cond b (k ∷ []) [])
+    last true = (tt, tt)
+    last false = tt
+
+    is-last : (b : Bool) (j : ℕ) → List·Memᴰ j (cond b (k ∷ []) []) → j ≡ k
+    is-last true j m = List·Memᴰ·eq-of-singleton m
+    is-last false j m = absurd (List·Memᴰ·not-nil m)
+
+bits-many : (x k : ℕ) → length (bitsOf x k) ≡ bitsBelow x k
+unfolding bitsOf bitsBelow
+bits-many x zero = refl
+bits-many x (suc k) =
+    let i = bits-many x k in
+    let l = length-append (bitsOf x k) (cond (eqb (x / 2 ^ k % 2) 1) (k ∷ []) []) in
+    let d = last (eqb (x / 2 ^ k % 2) 1) refl in
+    omega arith
+  where
+    last : (b : Bool) → eqb (x / 2 ^ k % 2) 1 ≡ b → length (cond b (k ∷ []) []) ≡ x / 2 ^ k % 2
+    last true e = sym (eqb-true _ 1 e)
+    last false e =
+        let d = eqb-false (x / 2 ^ k % 2) 1 e in
+        let l : x / 2 ^ k % 2 < 2 = mod-lt (x / 2 ^ k) (omega arith) in
+        omega arith
+
+-- a word without bits, and one without its lowest
+bits-none : (x : ℕ) → x ≡ 0 → bitsOf x 64 ≡ []
+bits-none x e = empty (bitsOf x 64) (λ i m. off i (rw e at (bits→ x 64 i m .1)))
+  where
+    empty : (l : List ℕ) → ((i : ℕ) → List·Memᴰ i l → ⊥) → l ≡ []
+    empty [] f = refl
+    empty (x ∷ l) f = absurd (f x (List·Memᴰ·head refl))
+
+bits-next : (x i y : ℕ) → LowestOn x i → Without x i y → bitsOf x 64 ≡ i ∷ bitsOf y 64
+bits-next x i y L W =
+    one-list ltb ltb-order (bitsOf x 64) (i ∷ bitsOf y 64) (bits-ascend x 64) (below-all ltb i (bitsOf y 64) higher, bits-ascend y 64)
+    (λ j m. let r = bits→ x 64 j m in elim (ℕ-discrete j i) [
+      | yes e ↦ List·Memᴰ·head e
+      | no d ↦ List·Memᴰ·tail (bits← y 64 j (r .0) (W .exactly j .1 (r .1, d)))
+    ])
+    (λ j m. ⊎-elim
+    (λ (e : j ≡ i). bits← x 64 j (omega (arith, e, L .within)) (rw e (L .on)))
+    (λ p. let r = bits→ y 64 j p in bits← x 64 j (r .0) (W .exactly j .0 (r .1) .0))
+    (List·Memᴰ·cases-cons m))
+  where
+    higher : (j : ℕ) → List·Memᴰ j (bitsOf y 64) → ltb i j ≡ true
+    higher j m = let r = W .exactly j .0 (bits→ y 64 j m .1) in elim (decLt j i) [
+      | yes h ↦ absurd (L .below j h (r .0))
+      | no h ↦ lt-ltb i j (let d = r .1 in omega (arith, h, d))
+    ]
 
 -- BYTES
 flat-append : (xs ys : List Transition) → flat (xs ++ ys) ≡ flat xs ++ flat ys
@@ -26,7 +121,7 @@ unfolding flat fourOf
 length-flat [] = refl
 length-flat (x ∷ xs) = let i = length-flat xs in omega arith
 
-pub sets-append : (xs ys a : List ℕ) (at : ℕ) → sets (sets a at xs) (at + length xs) ys ≡ sets a at (xs ++ ys)
+sets-append : (xs ys a : List ℕ) (at : ℕ) → sets (sets a at xs) (at + length xs) ys ≡ sets a at (xs ++ ys)
 sets-append [] ys a at = let e : at + 0 ≡ at = omega arith in rw e
 sets-append (x ∷ xs) ys a at = let e : at + suc (length xs) ≡ suc at + length xs = omega arith in rw e (sets-append xs ys (set a at x) (suc at))
 
@@ -73,97 +168,65 @@ module _ (a : List ℕ) (at : ℕ) (todo : List ℕ) where
         fits = rw (s .is, length-sets a at xs) (let n = w .fits in let l = sum in let q = s .next in omega arith);
       }
 
--- MARKED RANKS
-module _ (marks : List ℕ) where
-  picks-cons : (i n : ℕ) → picks marks i (suc n) ≡ picks marks i 1 ++ picks marks (suc i) n
-  unfolding picks
-  picks-cons i n = go (eqb (getD marks i 0) 1)
-    where
-      go : (b : Bool) → cond b (i ∷ picks marks (suc i) n) (picks marks (suc i) n) ≡ cond b (i ∷ []) [] ++ picks marks (suc i) n
-      go true = refl
-      go false = refl
+-- the head, and then the transitions
+pub body-stored : (out b d : List ℕ) (n t : ℕ) (ts : List Transition) → b ≡ sets out 0 (fourOf (n + 1) n (t % 256) (t / 256)) → d ≡ sets b 4 (flat ts) → d ≡ sets out 0 (headOf n t ++ flat ts)
+unfolding fourOf
+body-stored out b d n t ts eb ed = ed ∙ rw (eb, add-one n) (sets-append (headOf n t) (flat ts) out 0)
 
-  pub count-next : (i m b t r : ℕ) → i < m → r ≡ markOf b → b ≡ getD marks i 0 → t + length (picks marks i (m - i)) ≡ t + r + length (picks marks (i + 1) (m - (i + 1)))
-  unfolding picks markOf
-  count-next i m b t r h e eb =
-      let d : m - i ≡ suc (m - (i + 1)) = omega arith in
-      rw (d, e, eb, add-one i) (go (eqb (getD marks i 0) 1))
-    where
-      go : (x : Bool) → t + length (cond x (i ∷ picks marks (suc i) (m - suc i)) (picks marks (suc i) (m - suc i))) ≡ t + one x + length (picks marks (suc i) (m - suc i))
-      go true = omega arith
-      go false = omega arith
+-- A VERTEX
+module _ (keys : List ℕ) where
+  pub fits-rest : (x i y : ℕ) → KeysFit keys x → Without x i y → KeysFit keys y
+  fits-rest x i y f W = record { each = λ j on. f .each j (W .exactly j .0 on .0) }
 
-  pub count-end : (i m t : ℕ) → m ≤ i → t + length (picks marks i (m - i)) ≡ t
-  unfolding picks
-  count-end i m t h = let d : m - i ≡ 0 = omega arith in rw d (omega arith)
-
-  module _ (keys : List ℕ) (k : ℕ) where
-    pub rows-next : (i m : ℕ) → i < m → Split (flat (rows keys marks k i (m - i))) (flat (rows keys marks k i 1)) (flat (rows keys marks k (i + 1) (m - (i + 1))))
+  module _ (k : ℕ) where
+    pub rows-next : (x i y : ℕ) → LowestOn x i → Without x i y → Split (flat (rows keys k x)) (flat (rowOf keys k i ∷ [])) (flat (rows keys k y))
     unfolding rows
-    rows-next i m h =
-        let d : m - i ≡ suc (m - (i + 1)) = omega arith in
-        record {
-          is = rw (d, add-one i)
-              (ap (λ (l : List ℕ). flat (map (rowOf keys k) l)) (picks-cons i (m - suc i))
-              ∙ ap flat (map-append (rowOf keys k) (picks marks i 1) (picks marks (suc i) (m - suc i)))
-              ∙ flat-append (map (rowOf keys k) (picks marks i 1)) (map (rowOf keys k) (picks marks (suc i) (m - suc i))));
-        }
-      where
-        map-append : {A B : Type 0} (f : A → B) (s t : List A) → map f (s ++ t) ≡ map f s ++ map f t
-        map-append f [] t = refl
-        map-append f (x ∷ s) t = ap (λ r. f x ∷ r) (map-append f s t)
+    rows-next x i y L W = record { is = rw (bits-next x i y L W) (flat-append (rowOf keys k i ∷ []) (map (rowOf keys k) (bitsOf y 64))) }
 
-    pub rows-all : (m : ℕ) → flat (rows keys marks k 0 (m - 0)) ≡ flat (rows keys marks k 0 m)
-    rows-all m = rw (sub-zero m)
+    pub rows-end : (x : ℕ) → x ≡ 0 → flat (rows keys k x) ≡ []
+    unfolding rows flat
+    rows-end x e = rw (bits-none x e)
 
-    pub rows-end : (i m : ℕ) → m ≤ i → flat (rows keys marks k i (m - i)) ≡ []
-    unfolding rows picks flat
-    rows-end i m h = let d : m - i ≡ 0 = omega arith in rw d
+    -- the bytes of one transition
+    pub row-long : (i : ℕ) → length (flat (rowOf keys k i ∷ [])) ≡ 4
+    unfolding flat fourOf
+    row-long i = refl
 
-    -- the bytes of one rank
-    row-one : (i : ℕ) → getD marks i 0 ≡ 1 → flat (rows keys marks k i 1) ≡ fourOf (k + 1) (getD keys i 0 / 256) (getD keys i 0 % 256) 0
-    unfolding rows picks flat rowOf fourOf
-    row-one i e = rw (eq-eqb _ 1 e, add-one k)
-
-    pub row-long : (i : ℕ) → getD marks i 0 ≡ 1 → length (flat (rows keys marks k i 1)) ≡ 4
-    unfolding fourOf
-    row-long i e = ap length (row-one i e)
-
-    pub stored-none : (a : List ℕ) (at i : ℕ) → (getD marks i 0 ≡ 1 → ⊥) → Stored a at (flat (rows keys marks k i 1)) a at
-    unfolding rows picks flat
-    stored-none a at i d = rw (ne-eqb _ 1 d) (record { is = refl; next = omega arith })
-
-    pub stored-one : (a b : List ℕ) (at i : ℕ) → getD marks i 0 ≡ 1 → b ≡ sets a at (fourOf (k + 1) (getD keys i 0 / 256) (getD keys i 0 % 256) 0)
-        → Stored a at (flat (rows keys marks k i 1)) b (at + 4)
-    stored-one a b at i e eb = record { is = eb ∙ ap (sets a at) (sym (row-one i e)); next = omega (arith, row-long i e) }
+    pub row-stored : (a b : List ℕ) (at i : ℕ) → b ≡ sets a at (fourOf (k + 1) (getD keys i 0 / 256) (getD keys i 0 % 256) 0) → Stored a at (flat (rowOf keys k i ∷ [])) b (at + 4)
+    unfolding flat rowOf fourOf
+    row-stored a b at i e = record { is = rw (add-one k) at e; next = refl }
 
 -- VERTICES
-module _ (s ranks : List ℕ) (m : ℕ) where
-  pub vertices-next : (k n t r : ℕ) (marks : List ℕ) → k < n → marks ≡ marksOf s ranks k → r ≡ length (picks marks 0 m)
-      → t + sweepCount s ranks m k (n - k) ≡ t + r + sweepCount s ranks m (k + 1) (n - (k + 1))
-  unfolding sweepCount
-  vertices-next k n t r marks h e er = let d : n - k ≡ suc (n - (k + 1)) = omega arith in rw (d, er, e, add-one k) (omega arith)
+module _ (words : List ℕ) where
+  pub count-next : (k n t r : ℕ) → k < n → r ≡ bitsBelow (getD words (k + 1) 0) 64 → t + bitsFrom words k (n - k) ≡ t + r + bitsFrom words (k + 1) (n - (k + 1))
+  unfolding bitsFrom
+  count-next k n t r h e = let d : n - k ≡ suc (n - (k + 1)) = omega arith in rw (d, e, add-one k) (omega arith)
 
-  pub vertices-end : (k n t : ℕ) → n ≤ k → t + sweepCount s ranks m k (n - k) ≡ t
-  unfolding sweepCount
-  vertices-end k n t h = let d : n - k ≡ 0 = omega arith in rw d (omega arith)
+  pub count-end : (k n t : ℕ) → n ≤ k → t + bitsFrom words k (n - k) ≡ t
+  unfolding bitsFrom
+  count-end k n t h = let d : n - k ≡ 0 = omega arith in rw d (omega arith)
 
   module _ (keys : List ℕ) where
-    pub sweep-next : (k n : ℕ) (marks : List ℕ) → k < n → marks ≡ marksOf s ranks k
-        → Split (flat (sweep s ranks keys m k (n - k))) (flat (rows keys marks k 0 m)) (flat (sweep s ranks keys m (k + 1) (n - (k + 1))))
-    unfolding sweep
-    sweep-next k n marks h e =
+    pub listing-next : (k n : ℕ) → k < n → Split (flat (listing keys words k (n - k))) (flat (rows keys k (getD words (k + 1) 0))) (flat (listing keys words (k + 1) (n - (k + 1))))
+    unfolding listing
+    listing-next k n h =
         let d : n - k ≡ suc (n - (k + 1)) = omega arith in
-        record { is = rw (d, e, add-one k) (flat-append (rows keys (marksOf s ranks k) k 0 m) (sweep s ranks keys m (suc k) (n - suc k))) }
+        record { is = rw (d, add-one k) (flat-append (rows keys k (getD words (suc k) 0)) (listing keys words (suc k) (n - suc k))) }
 
-    pub sweep-all : (n : ℕ) → flat (sweep s ranks keys m 0 (n - 0)) ≡ flat (sweep s ranks keys m 0 n)
-    sweep-all n = rw (sub-zero n)
+    pub listing-all : (n : ℕ) → flat (listing keys words 0 (n - 0)) ≡ flat (listing keys words 0 n)
+    listing-all n = rw (sub-zero n)
 
-    pub sweep-end : (k n : ℕ) → n ≤ k → flat (sweep s ranks keys m k (n - k)) ≡ []
-    unfolding sweep flat
-    sweep-end k n h = let d : n - k ≡ 0 = omega arith in rw d
+    pub listing-end : (k n : ℕ) → n ≤ k → flat (listing keys words k (n - k)) ≡ []
+    unfolding listing flat
+    listing-end k n h = let d : n - k ≡ 0 = omega arith in rw d
 
-    pub sweep-many : (k n : ℕ) → length (sweep s ranks keys m k n) ≡ sweepCount s ranks m k n
-    unfolding sweep sweepCount rows
-    sweep-many k zero = refl
-    sweep-many k (suc n) = simp (length-append, length-map) (ap (λ (x : ℕ). length (picks (marksOf s ranks k) 0 m) + x) (sweep-many (suc k) n))
+    pub listing-many : (k n : ℕ) → length (listing keys words k n) ≡ bitsFrom words k n
+    unfolding listing bitsFrom rows
+    listing-many k zero = refl
+    listing-many k (suc n) =
+        let w = getD words (suc k) 0 in
+        let i = listing-many (suc k) n in
+        let b = bits-many w 64 in
+        let l = length-append (map (rowOf keys k) (bitsOf w 64)) (listing keys words (suc k) n) in
+        let m = length-map (bitsOf w 64) (rowOf keys k) in
+        omega arith
