@@ -50,8 +50,8 @@ fn write_rows(out: &mut [u8], at: usize, keys: &[usize; 128], k: usize, word: u6
     let mut p = at;
     let mut left = word;
     while left != 0 {
-        let i = bits::lowest(left);
-        left = bits::rest(left);
+        let i = bits::lowest_bit(left);
+        left = bits::without_lowest(left);
         p = write_row(out, p, keys, k, i);
     }
     p

@@ -25,7 +25,7 @@ fn leaf_word<'a>(nodes: &'a [u8], ranks: &'a [usize; 128], k: usize) -> u64
         return 0;
     }
     let rank = ranks[k];
-    bits::with(0, rank)
+    bits::with_bit(0, rank)
 }
 
 // The word of a node from those of its operands: of both for a sum and a star, of the left one for a product.
@@ -35,7 +35,7 @@ fn joined_word(kind: usize, left: u64, right: u64) -> u64
     if kind == PRODUCT {
         return left;
     }
-    bits::either(left, right)
+    bits::bit_or(left, right)
 }
 
 // Fills the words of node k and of the nodes below it, each from those of its operands, at the vertex of each; the word
@@ -84,7 +84,7 @@ pub(crate) fn count_transitions(words: &[u64; 128], n: usize) -> usize
     let mut t: usize = 0;
     let mut k: usize = 0;
     while k < n {
-        t += bits::count(words[k + 1]);
+        t += bits::count_bits(words[k + 1]);
         k += 1;
     }
     t

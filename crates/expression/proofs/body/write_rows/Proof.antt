@@ -17,30 +17,30 @@ abbrev μ-loop : tie.MeasureT-loop
 loop-holds : tie.Need-loop-holds Inv-loop μ-loop
 loop-holds c = let p = c .before .pre in (p .0, p .1, writing-start _ _ _ _ refl (p .2))
 
-lowest-requires : tie.Need-lowest-requires Inv-loop μ-loop
-lowest-requires c κs = c .loop-test .taken
+lowest-bit-requires : tie.Need-lowest-bit-requires Inv-loop μ-loop
+lowest-bit-requires c κs = c .loop-test .taken
 
-rest-requires : tie.Need-rest-requires Inv-loop μ-loop
-rest-requires c κs = c .before .loop-test .taken
+without-lowest-requires : tie.Need-without-lowest-requires Inv-loop μ-loop
+without-lowest-requires c κs = c .before .loop-test .taken
 
 write-row-requires : tie.Need-write-row-requires Inv-loop μ-loop
 write-row-requires c κs =
     let lowest = c .before .before in
     let i = lowest .before .before .loop .inv in
-    let L = lowest .lowest .ensures in
+    let L = lowest .lowest-bit .ensures in
     let s = lowest .before .before .before .before in
-    let room = writing-room _ _ _ _ _ _ (i .2) _ _ (rows-next _ _ _ _ _ L (c .before .rest .ensures _ L)) in
-    (i .0, omega (arith, L .within), i .1 .each _ (L .on), omega (arith, room, row-long (s .args .keys .now) (s .args .k) (lowest .lowest .result)))
+    let room = writing-room _ _ _ _ _ _ (i .2) _ _ (rows-next _ _ _ _ _ L (c .before .without-lowest .ensures _ L)) in
+    (i .0, omega (arith, L .within), i .1 .each _ (L .on), omega (arith, room, row-long (s .args .keys .now) (s .args .k) (lowest .lowest-bit .result)))
 
 loop-less : tie.Need-loop-less Inv-loop μ-loop
-loop-less c = let L = c .before .before .before .before .before .lowest .ensures in c .before .before .before .before .rest .ensures _ L .less (L .on)
+loop-less c = let L = c .before .before .before .before .before .lowest-bit .ensures in c .before .before .before .before .without-lowest .ensures _ L .less (L .on)
 
 loop-again : tie.Need-loop-again Inv-loop μ-loop
 loop-again c =
     let lowest = c .before .before .before .before .before in
     let i = lowest .before .before .loop .inv in
-    let L = lowest .lowest .ensures in
-    let W = c .before .before .before .before .rest .ensures _ L in
+    let L = lowest .lowest-bit .ensures in
+    let W = c .before .before .before .before .without-lowest .ensures _ L in
     (i .0, fits-rest _ _ _ _ (i .1) W, writing-on _ _ _ _ _ _ (i .2) _ _ (rows-next _ _ _ _ _ L W) _ _ (c .before .before .write-row .ensures))
 
 same-length : tie.Need-same-length Inv-loop μ-loop
@@ -56,8 +56,8 @@ write-rows-spec =
     Inv-loop
     μ-loop
     loop-holds
-    lowest-requires
-    rest-requires
+    lowest-bit-requires
+    without-lowest-requires
     write-row-requires
     loop-less
     loop-again

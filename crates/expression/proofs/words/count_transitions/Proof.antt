@@ -17,20 +17,20 @@ abbrev μ-loop : tie.MeasureT-loop
 loop-holds : tie.Need-loop-holds Inv-loop μ-loop
 loop-holds c = (c .pre, omega arith, omega arith, rw (sub-zero (c .args .n)) (zero-add _))
 
-add-count : tie.Need-add-count Inv-loop μ-loop
-add-count c = record { fits = omega arith }
+add-count-bits : tie.Need-add-count-bits Inv-loop μ-loop
+add-count-bits c = record { fits = omega arith }
 
-mul-count : tie.Need-mul-count Inv-loop μ-loop
-mul-count c = record { fits = omega arith }
+mul-count-bits : tie.Need-mul-count-bits Inv-loop μ-loop
+mul-count-bits c = record { fits = omega arith }
 
-element-copy-out-count : tie.Need-element-copy-out-count Inv-loop μ-loop
-element-copy-out-count c = omega arith
+element-copy-out-count-bits : tie.Need-element-copy-out-count-bits Inv-loop μ-loop
+element-copy-out-count-bits c = omega arith
 
-count-requires : tie.Need-count-requires Inv-loop μ-loop
-count-requires c κs = tt
+count-bits-requires : tie.Need-count-bits-requires Inv-loop μ-loop
+count-bits-requires c κs = tt
 
 add-t : tie.Need-add-t Inv-loop μ-loop
-add-t c = let r = c .count .ensures .1 in omega arith
+add-t c = let r = c .count-bits .ensures .1 in omega arith
 
 add-k : tie.Need-add-k Inv-loop μ-loop
 add-k c = omega arith
@@ -41,7 +41,7 @@ loop-less c = omega arith
 loop-again : tie.Need-loop-again Inv-loop μ-loop
 loop-again c =
     let i = c .before .before .before .loop .inv in
-    let r = c .count .ensures in
+    let r = c .count-bits .ensures in
     (i .0, omega arith, omega (arith, i .2, r .1), sym (count-next _ _ _ _ _ (c .before .before .loop-test .taken) (r .0)) ∙ i .3)
 
 returns : tie.Need-returns Inv-loop μ-loop
@@ -54,10 +54,10 @@ count-transitions-spec =
     Inv-loop
     μ-loop
     loop-holds
-    add-count
-    mul-count
-    element-copy-out-count
-    count-requires
+    add-count-bits
+    mul-count-bits
+    element-copy-out-count-bits
+    count-bits-requires
     add-t
     add-k
     loop-less

@@ -21,17 +21,17 @@ mul-rank c = search needs
 element-copy-out-rank : tie.Need-element-copy-out-rank
 element-copy-out-rank c = search needs
 
-with-requires : tie.Need-with-requires
-with-requires c κs =
+with-bit-requires : tie.Need-with-bit-requires
+with-bit-requires c κs =
     let p = c .before .before .before .before .pre in
     p .2 .each _ (p .1) (omega (arith, c .before .before .kind-of .ensures, c .before .if1 .left, p .3))
 
 returns-2 : tie.Need-returns-2
 returns-2 c =
     let p = c .before .before .before .before .before .pre in
-    word-own _ (p .0) _ (p .1) _ _ (omega (arith, c .before .before .before .kind-of .ensures, c .before .before .if1 .left, p .3)) (c .with .ensures)
+    word-own _ (p .0) _ (p .1) _ _ (omega (arith, c .before .before .before .kind-of .ensures, c .before .before .if1 .left, p .3)) (c .with-bit .ensures)
 
 pub leaf-word-spec : {M : Type 1} → statement M
 leaf-word-spec =
     tie.close
-    (tie.spec kind-of-requires returns mul-rank element-copy-out-rank with-requires returns-2)
+    (tie.spec kind-of-requires returns mul-rank element-copy-out-rank with-bit-requires returns-2)
