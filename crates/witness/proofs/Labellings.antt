@@ -36,7 +36,7 @@ pub tests-step : (b labels : List ℕ) (u l w : ℕ) → Decides (stepTest b lab
 unfolding stepTest
 tests-step b labels u l w =
     decides-same
-    ((λ (i, h, (p, (q, r))). record { at = i; within = h; leaves = p; label = q; enters = r }), (λ s. (s .at, s .within, (s .leaves, (s .label, s .enters)))))
+    ((λ (i, h, (p, (q, r))). record { at = i; within = h; leaves = p; enters = r; holds = record { is = q } }), (λ s. (s .at, s .within, (s .leaves, (s .holds .is, s .enters)))))
     (decides-below (λ i. decides-and (decides-eqb (fromOf b i) u) (decides-and (decides-eqb (getD labels i 0) l) (decides-eqb (toOf b i) w))) (countOf b))
 
 module _ (b labels : List ℕ) (W : WellFormed b) (B : Bytes labels) where

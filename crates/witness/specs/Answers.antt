@@ -16,7 +16,8 @@ FailsAt S v l p = (o : Outcome) × LoopFails S v l o × ((n : ℕ) → answered 
 -- the loops of v, by level: each passes, or the first that fails
 abbrev pub VertexSaid : Steps → ℕ → Stage → Type 0
 VertexSaid S v Passed = (l : ℕ) → Loop S v l → LoopPasses S v l
-VertexSaid S v (Refused p) = (l : ℕ) × Loop S v l × ((m : ℕ) → m < l → Loop S v m → LoopPasses S v m) × FailsAt S v l p
+VertexSaid S v (Refused p) =
+    (l : ℕ) × Loop S v l × ((m : ℕ) → m < l → Loop S v m → LoopPasses S v m) × FailsAt S v l p
 
 -- all loops, by vertex and then by level
 abbrev pub LoopsSaid : Steps → Stage → Type 0

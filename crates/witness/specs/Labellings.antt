@@ -9,12 +9,14 @@ use Rattle.theory.specs.Tests.{someBelow}
 use Rattle.theory.specs.LabellingTests.{StepTest, loopList, outcome}
 use Rattle.report.specs.declared.Labelled.{Labelled}
 use Rattle.report.specs.declared.Labelled.the-variants.{Passed, Refused}
-use Rattle.report.specs.declared.Place.the-variants.{LabelsLength, Unreached, BranchCycle, LoopNoReturn, LoopEndInside, LoopNotLower}
+use Rattle.report.specs.declared.Place.the-variants.{LabelsLength, Unreached, BranchCycle}
+use Rattle.report.specs.declared.Place.the-variants.{LoopNoReturn, LoopEndInside, LoopNotLower}
 use Rattle.chart.specs.Bodies.{verticesOf, startOf, countOf, fromOf, toOf}
 
 -- some transition with the label l leads from u to w
 unfoldable pub stepTest : List ℕ → List ℕ → StepTest
-stepTest b labels u l w = someBelow (λ i. eqb (fromOf b i) u && (eqb (getD labels i 0) l && eqb (toOf b i) w)) (countOf b)
+stepTest b labels u l w =
+    someBelow (λ i. eqb (fromOf b i) u && (eqb (getD labels i 0) l && eqb (toOf b i) w)) (countOf b)
 
 -- the number of loops of a labelling
 unfoldable pub loopsOf : List ℕ → List ℕ → ℕ
@@ -34,4 +36,7 @@ answered n (not-lower v l r) = Refused (LoopNotLower v l r)
 
 -- 30 first
 unfoldable pub labelledOf : List ℕ → List ℕ → Labelled
-labelledOf b labels = cond (eqb (length labels) (countOf b)) (answered (loopsOf b labels) (outcomeOf b labels)) (Refused (LabelsLength (length labels)))
+labelledOf b labels =
+    cond (eqb (length labels) (countOf b))
+    (answered (loopsOf b labels) (outcomeOf b labels))
+    (Refused (LabelsLength (length labels)))

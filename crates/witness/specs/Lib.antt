@@ -1,9 +1,7 @@
--- The definitions. The meaning: what each answer of 30 to 35 says
+-- The definitions. The meaning: LabellingAnswers, what each answer of 30 to 35 says. The test that runs: Labellings.
+-- The others only serve proofs, as the contracts of the code's parts: Answers, Given, Loops.
 pub mod LabellingAnswers
--- the test
 pub mod Labellings
--- the contracts of the code's parts
-pub mod Lowest
 pub mod Given
 pub mod Answers
 pub mod Loops

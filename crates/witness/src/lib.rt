@@ -5,8 +5,8 @@ mod reached;
 mod tables;
 
 use bits::byte;
+use chart::sets::cycle;
 use loop_checks::loops_check;
-use reached::branch_cycle;
 use reached::unreached;
 use report::Labelled;
 use report::Place;
@@ -33,11 +33,11 @@ pub fn check(body: &[u8], labels: &[u8]) -> Labelled
     let mut entries = [0u64; 256];
     let mut low = [256usize; 128];
     let mut high = [0u64; 512];
-    let rows = chart::rows(body);
+    let begins = chart::begins(body);
     collect(
         body,
         labels,
-        &rows,
+        &begins,
         n,
         &mut next,
         &mut branches,
@@ -49,8 +49,9 @@ pub fn check(body: &[u8], labels: &[u8]) -> Labelled
     if p < n {
         return Labelled::Refused(Place::Unreached(p));
     }
+    // where there is no cycle, `after` has what each vertex reaches by branches
     let mut after = [0u64; 256];
-    let c = branch_cycle(body, &branches, &mut after);
+    let c = cycle(&branches, n, &mut after);
     if c < n {
         return Labelled::Refused(Place::BranchCycle(c));
     }
@@ -60,7 +61,7 @@ pub fn check(body: &[u8], labels: &[u8]) -> Labelled
     match loops_check(
         body,
         labels,
-        &rows,
+        &begins,
         &branches,
         &after,
         &entries,

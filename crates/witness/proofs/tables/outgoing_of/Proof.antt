@@ -4,22 +4,22 @@ use native.Mathlib.Nat.{le-refl}
 use native.Mathlib.Omega.{arith}
 use lib.ListN.{length, getD}
 use Rattle.bits.specs.Tables.{Gains}
-use Rattle.bits.proofs.Tables.{gains-none}
+use Rattle.bits.proofs.Gains.{gains-none}
 use Rattle.chart.specs.Bodies.{countOf, WellFormed}
 use Rattle.chart.proofs.Checks.{well-formed}
-use Rattle.chart.proofs.Order.{row-order, row-high}
-use Rattle.witness.specs.Given.{Enters, RowOf}
-use Rattle.witness.proofs.Collecting.{row-begin, row-more, row-all}
-use Rattle.witness.proofs.Seen.{Seen, seen-none, row-from, enters-more, enters-all}
+use Rattle.chart.proofs.Order.{begin-order, begin-high}
+use Rattle.witness.specs.Given.{Enters, OutgoingOf}
+use Rattle.witness.proofs.Collecting.{outgoing-begin, outgoing-more, outgoing-all}
+use Rattle.witness.proofs.Seen.{Seen, seen-none, leaves-v, enters-more, enters-all}
 use borrow.Author.Needs.{needs}
-use Rattle.witness.proofs.tables.row_of.Statement.{statement}
-use Rattle.witness.proofs.tables.row_of.Tie as tie
+use Rattle.witness.proofs.tables.outgoing_of.Statement.{statement}
+use Rattle.witness.proofs.tables.outgoing_of.Tie as tie
 
 abbrev Inv-loop : tie.InvT-loop
-Inv-loop body labels rows u entered₀ end row₀ i₀ entered row i = WellFormed body × (length labels ≡ countOf body) × (length entered₀ ≡ 512) × (end ≤ countOf body) × (i₀ ≤ i) × (i ≤ end) × RowOf (Seen body labels i₀ i) u row × Gains (Enters (Seen body labels i₀ i)) entered₀ entered
+Inv-loop body labels begins u entered₀ end out₀ i₀ entered out i = WellFormed body × (length labels ≡ countOf body) × (length entered₀ ≡ 512) × (end ≤ countOf body) × (i₀ ≤ i) × (i ≤ end) × OutgoingOf (Seen body labels i₀ i) u out × Gains (Enters (Seen body labels i₀ i)) entered₀ entered
 
 abbrev μ-loop : tie.MeasureT-loop
-μ-loop body labels rows u entered₀ end row₀ i₀ entered row i = end - i
+μ-loop body labels begins u entered₀ end out₀ i₀ entered out i = end - i
 
 add-end : tie.Need-add-end Inv-loop μ-loop
 add-end c = search needs
@@ -30,8 +30,8 @@ mul-end c = search needs
 element-copy-out-end : tie.Need-element-copy-out-end Inv-loop μ-loop
 element-copy-out-end c = search needs
 
-empty-row-requires : tie.Need-empty-row-requires Inv-loop μ-loop
-empty-row-requires c κs = search needs
+none-outgoing-requires : tie.Need-none-outgoing-requires Inv-loop μ-loop
+none-outgoing-requires c κs = search needs
 
 mul-i : tie.Need-mul-i Inv-loop μ-loop
 mul-i c = search needs
@@ -42,7 +42,7 @@ element-copy-out-i c = search needs
 loop-holds : tie.Need-loop-holds Inv-loop μ-loop
 loop-holds c =
     let p = c .before .before .before .before .before .before .pre in
-    (well-formed _ (p .0 .passed), p .0 .long, p .2, row-high (p .0 .begins) _ (p .1), le-refl _, row-order (p .0 .begins) _ (p .1), row-begin (c .before .empty-row .ensures _), gains-none (λ x y (h, w, s). seen-none s))
+    (well-formed _ (p .0 .passed), p .0 .long, p .2, begin-high (p .0 .of-begins) _ (p .1), le-refl _, begin-order (p .0 .of-begins) _ (p .1), outgoing-begin (c .before .none-outgoing .ensures _), gains-none (λ x y (h, w, s). seen-none s))
 
 mul-byte : tie.Need-mul-byte Inv-loop μ-loop
 mul-byte c = search needs
@@ -77,11 +77,11 @@ loop-again c =
     let p = c .before .before .before .before .before .before .before .before .before .before .before .before .before .before .pre in
     let k = c .before .before .before .before .before .before .before .loop in
     let i = k .inv in
-    let u = row-from (p .0 .begins) _ (p .1) (k .i) (i .4) (c .before .before .before .before .before .before .loop-test .taken) in
+    let u = leaves-v (p .0 .of-begins) _ (p .1) (k .i) (i .4) (c .before .before .before .before .before .before .loop-test .taken) in
     let w = c .before .before .before .before .before .byte .ensures .0 in
     let l = c .before .before .before .before .byte2 .ensures .0 in
     let e = c .before .before .with-step .ensures in
-    (i .0, i .1, i .2, i .3, omega arith, omega arith, row-more (k .i) (i .4) u l w (i .6) (e .0), enters-more (k .i) (i .4) u l w (i .7) (e .1))
+    (i .0, i .1, i .2, i .3, omega arith, omega arith, outgoing-more (k .i) (i .4) (omega arith) u l w (i .6) (e .0), enters-more (k .i) (i .4) (omega arith) u l w (i .7) (e .1))
 
 same-length : tie.Need-same-length Inv-loop μ-loop
 same-length c = c .before .loop .inv .7 .long
@@ -91,11 +91,11 @@ returns c =
     let k = c .before .before .before .before .before .before .before .before in
     let p = k .pre in
     let i = c .before .loop .inv in
-    let e : c .before .loop .i ≡ getD (k .args .rows .now) (k .args .u + 1) 0 = omega arith in
-    (row-all (p .0 .begins) (p .1) e (i .6), enters-all (p .0 .begins) _ (p .1) e (i .7))
+    let e : c .before .loop .i ≡ getD (k .args .begins .now) (k .args .u + 1) 0 = omega arith in
+    (outgoing-all (p .0 .of-begins) (p .1) e (i .6), enters-all (p .0 .of-begins) _ (p .1) e (i .7))
 
-pub row-of-spec : {M : Type 1} → statement M
-row-of-spec =
+pub outgoing-of-spec : {M : Type 1} → statement M
+outgoing-of-spec =
     tie.close
     (tie.spec
     Inv-loop
@@ -103,7 +103,7 @@ row-of-spec =
     add-end
     mul-end
     element-copy-out-end
-    empty-row-requires
+    none-outgoing-requires
     mul-i
     element-copy-out-i
     loop-holds
