@@ -1,6 +1,7 @@
 -- The laws.
 pub mod Words
 pub mod Checks
+pub mod Refusals
 pub mod Order
 pub mod Parts
 pub mod Searches
