@@ -1,6 +1,7 @@
 -- The laws.
 pub mod Codes
 pub mod Checks
+pub mod Refusals
 pub mod Order
 pub mod Parts
 pub mod Searches

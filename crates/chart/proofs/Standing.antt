@@ -1,4 +1,5 @@
--- Standing bytes as the theory has what stands: at first, after a removal, and that there is only one way to write them.
+-- Standing bytes as the theory has what stands: at first, after a removal, and that there is only one way to write
+-- them.
 use Prim.Native.Nat.{ℕ, _<_}
 use mathlib.Core.Path.{_≡_, refl, sym, _∙_}
 use mathlib.Core.Logic.{_⊎_, inl, inr, ⊎-elim, _↔_, by-cases}
@@ -24,7 +25,8 @@ either v l u m =
 
 module _ {body labels : List ℕ} where
   -- WHAT STANDS by these bytes is what stands while these loops remain
-  pub stands-agree : {standing : List ℕ} {X : Loops} → StandsFor body labels standing X → Agree (StepsOf body labels) X (StandingOf body labels standing)
+  pub stands-agree : {standing : List ℕ} {X : Loops} → StandsFor body labels standing X
+      → Agree (StepsOf body labels) X (StandingOf body labels standing)
   stands-agree {standing} {X} h u l w = (
     (λ s. (standing-step s, rw (s .leaves, s .holds .label) at (h .stands (s .at) (s .within) .0 (s .holds .stands)))),
     (λ (s, c). record {
@@ -37,7 +39,8 @@ module _ {body labels : List ℕ} where
   )
 
   -- AT FIRST every byte is 1, for all loops
-  pub all-stand : {standing : List ℕ} → length standing ≡ countOf body → ((i : ℕ) → i < countOf body → getD standing i 0 ≡ 1) → StandsFor body labels standing (Loop (StepsOf body labels))
+  pub all-stand : {standing : List ℕ} → length standing ≡ countOf body → ((i : ℕ) → i < countOf body → getD standing i 0 ≡ 1)
+      → StandsFor body labels standing (Loop (StepsOf body labels))
   all-stand {standing} long h = record {
     long = long;
     marks = λ i g. omega (arith, h i g);
@@ -45,7 +48,9 @@ module _ {body labels : List ℕ} where
   }
     where
       there : (i : ℕ) → i < countOf body → StandsAt body labels (Loop (StepsOf body labels)) i
-      there i g = by-cases (ℕ-discrete (getD labels i 0) 0) inl (λ z. inr (omega arith, _, record { at = i; within = g; leaves = refl; enters = refl; holds = record { is = refl } }))
+      there i g =
+          by-cases (ℕ-discrete (getD labels i 0) 0) inl
+          (λ z. inr (omega arith, _, record { at = i; within = g; leaves = refl; enters = refl; holds = record { is = refl } }))
 
   module _ {v l : ℕ} {before after : List ℕ} (t : TakenOut body labels v l before after) where
     -- A REMOVAL leaves the relation that the theory's does
@@ -74,20 +79,26 @@ module _ {body labels : List ℕ} where
     )
 
     -- and stands for the loops without the pair, whose level is not that of branches
-    pub taken-stands : {X : Loops} → 0 < l → StandsFor body labels before X → StandsFor body labels after (left-loops done v l X)
+    pub taken-stands : {X : Loops} → 0 < l → StandsFor body labels before X
+        → StandsFor body labels after (left-loops done v l X)
     taken-stands {X} level h = record {
       long = t .long ∙ h .long;
-      marks = λ i g. ⊎-elim (λ e. omega (arith, t .gone i g (e .0) (e .1))) (λ d. omega (arith, t .kept i g d, h .marks i g)) (either v l (fromOf body i) (getD labels i 0));
+      marks = λ i g. ⊎-elim
+          (λ e. omega (arith, t .gone i g (e .0) (e .1)))
+          (λ d. omega (arith, t .kept i g d, h .marks i g))
+          (either v l (fromOf body i) (getD labels i 0));
       stands = λ i g. ⊎-elim (out i g) (stay i g) (either v l (fromOf body i) (getD labels i 0));
     }
       where
-        out : (i : ℕ) → i < countOf body → (fromOf body i ≡ v) × (getD labels i 0 ≡ l) → (getD after i 0 ≡ 1) ↔ StandsAt body labels (left-loops done v l X) i
+        out : (i : ℕ) → i < countOf body → (fromOf body i ≡ v) × (getD labels i 0 ≡ l)
+            → (getD after i 0 ≡ 1) ↔ StandsAt body labels (left-loops done v l X) i
         out i g e = (
           (λ s. absurd (omega (arith, t .gone i g (e .0) (e .1)))),
           (λ c. absurd (⊎-elim (λ z. omega (arith, e .1)) (λ x. x .1 e) c)),
         )
 
-        stay : (i : ℕ) → i < countOf body → Different v l (fromOf body i) (getD labels i 0) → (getD after i 0 ≡ 1) ↔ StandsAt body labels (left-loops done v l X) i
+        stay : (i : ℕ) → i < countOf body → Different v l (fromOf body i) (getD labels i 0)
+            → (getD after i 0 ≡ 1) ↔ StandsAt body labels (left-loops done v l X) i
         stay i g d = (
           (λ s. ⊎-elim inl (λ x. inr (x, d)) (h .stands i g .0 (sym (t .kept i g d) ∙ s))),
           (λ c. t .kept i g d ∙ h .stands i g .1 (⊎-elim inl (λ x. inr (x .0)) c)),
@@ -95,15 +106,21 @@ module _ {body labels : List ℕ} where
 
   -- THERE IS ONE WAY: the bytes are determined by the set, and those after a removal by those before it
   pub one-standing : {a b : List ℕ} {X : Loops} → StandsFor body labels a X → StandsFor body labels b X → a ≡ b
-  one-standing {a} {b} g h = ext-getD 0 a b (g .long ∙ sym (h .long)) (λ i k. let w : i < countOf body = omega (arith, g .long) in same i w)
+  one-standing {a} {b} g h = ext-getD 0 a b (g .long ∙ sym (h .long)) (λ i k. same i (omega (arith, g .long)))
     where
       same : (i : ℕ) → i < countOf body → getD a i 0 ≡ getD b i 0
       same i w =
           by-cases (ℕ-discrete (getD a i 0) 1)
           (λ e. e ∙ sym (h .stands i w .1 (g .stands i w .0 e)))
-          (λ n. by-cases (ℕ-discrete (getD b i 0) 1) (λ e. absurd (n (g .stands i w .1 (h .stands i w .0 e)))) (λ m. omega (arith, g .marks i w, h .marks i w)))
+          (λ n. by-cases (ℕ-discrete (getD b i 0) 1)
+          (λ e. absurd (n (g .stands i w .1 (h .stands i w .0 e))))
+          (λ m. omega (arith, g .marks i w, h .marks i w)))
 
-  pub one-taken : {v l : ℕ} {before a b : List ℕ} → length before ≡ countOf body → TakenOut body labels v l before a → TakenOut body labels v l before b → a ≡ b
+  pub one-taken : {v l : ℕ} {before a b : List ℕ} → length before ≡ countOf body → TakenOut body labels v l before a
+      → TakenOut body labels v l before b → a ≡ b
   one-taken {v} {l} {before} {a} {b} long g h = ext-getD 0 a b (g .long ∙ sym (h .long)) (λ i k.
       let w : i < countOf body = omega (arith, g .long) in
-      ⊎-elim (λ e. g .gone i w (e .0) (e .1) ∙ sym (h .gone i w (e .0) (e .1))) (λ d. g .kept i w d ∙ sym (h .kept i w d)) (either v l (fromOf body i) (getD labels i 0)))
+      ⊎-elim
+      (λ e. g .gone i w (e .0) (e .1) ∙ sym (h .gone i w (e .0) (e .1)))
+      (λ d. g .kept i w d ∙ sym (h .kept i w d))
+      (either v l (fromOf body i) (getD labels i 0)))

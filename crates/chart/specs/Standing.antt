@@ -1,5 +1,5 @@
--- Standing bytes, one a transition: 1 stands, 0 is gone. They are said by index, since two transitions that differ in their action
--- only are one step of `StepsOf`.
+-- Standing bytes, one a transition: 1 stands, 0 is gone. They are said by index, since two transitions that differ in their
+-- action only are one step of `StepsOf`.
 use Prim.Native.Nat.{ℕ, _≤_, _<_}
 use mathlib.Core.Path.{_≡_}
 use mathlib.Core.Logic.{_⊎_, _↔_}
@@ -23,4 +23,5 @@ pub record StandsFor (body labels standing : List ℕ) (X : Loops) : Type 0 wher
 pub record TakenOut (body labels : List ℕ) (v l : ℕ) (before after : List ℕ) : Type 0 where
   pub long : length after ≡ length before
   pub gone : (i : ℕ) → i < countOf body → fromOf body i ≡ v → getD labels i 0 ≡ l → getD after i 0 ≡ 0
-  pub kept : (i : ℕ) → i < countOf body → Different v l (fromOf body i) (getD labels i 0) → getD after i 0 ≡ getD before i 0
+  pub kept : (i : ℕ) → i < countOf body → Different v l (fromOf body i) (getD labels i 0)
+      → getD after i 0 ≡ getD before i 0

@@ -143,7 +143,8 @@ atLeaf dead w = 0
 atLeaf (leaf a) w = w
 atLeaf (bin o l r) w = 0
 
--- TREES. A table of n nodes in which operands are lower than the node and every node but the last is an operand exactly once
+-- TREES. A table of n nodes in which operands are lower than the node, and every node but the last is an operand exactly
+-- once
 pub record Tree (nd : ℕ → Node) (n : ℕ) : Type 0 where
   pub low : (k : ℕ) (o : Op) (l r : ℕ) → k < n → nd k ≡ bin o l r → (l < k) × (r < k)
   pub once : (j : ℕ) → suc j < n → uses nd n j ≡ 1
