@@ -1,28 +1,28 @@
--- `cases::largest::write_labels` meets its contract: a count to 8192.
+-- `cases::run` meets its contract: each line ends further on.
 use Prim.Native.Nat.{_-_}
 use mathlib.Core.Path.{_≡_}
 use lib.ListN.{length}
 use borrow.Author.Needs.{needs}
-use Rattle.cases.proofs.largest.write_labels.Statement.{statement}
-use Rattle.cases.proofs.largest.write_labels.Tie as tie
+use Rattle.cases.proofs.run.Statement.{statement}
+use Rattle.cases.proofs.run.Tie as tie
 
 abbrev Inv-loop : tie.InvT-loop
-Inv-loop labels₀ t₀ labels t = length labels ≡ length labels₀
+Inv-loop table bytes₀ state₀ at₀ bytes state at = length bytes ≡ length bytes₀
 
 abbrev μ-loop : tie.MeasureT-loop
-μ-loop labels₀ t₀ labels t = 8192 - t
+μ-loop table bytes₀ state₀ at₀ bytes state at = length table - at
 
 loop-holds : tie.Need-loop-holds Inv-loop μ-loop
 loop-holds c = search needs
 
-label-requires : tie.Need-label-requires Inv-loop μ-loop
-label-requires c κs = search needs
+find-requires : tie.Need-find-requires Inv-loop μ-loop
+find-requires c κs = search needs
 
-put-requires : tie.Need-put-requires Inv-loop μ-loop
-put-requires c κs = search needs
+obey-requires : tie.Need-obey-requires Inv-loop μ-loop
+obey-requires c κs = search needs
 
-add-t : tie.Need-add-t Inv-loop μ-loop
-add-t c = search needs
+add-at : tie.Need-add-at Inv-loop μ-loop
+add-at c = search needs
 
 loop-less : tie.Need-loop-less Inv-loop μ-loop
 loop-less c = search needs
@@ -36,16 +36,16 @@ same-length c = search needs
 returns : tie.Need-returns Inv-loop μ-loop
 returns c = search needs
 
-pub write-labels-spec : {M : Type 1} → statement M
-write-labels-spec =
+pub run-spec : {M : Type 1} → statement M
+run-spec =
     tie.close
     (tie.spec
     Inv-loop
     μ-loop
     loop-holds
-    label-requires
-    put-requires
-    add-t
+    find-requires
+    obey-requires
+    add-at
     loop-less
     loop-again
     same-length

@@ -1,18 +1,18 @@
--- `cases::files::append` meets its contract: there is room for each byte that is copied.
+-- `cases::answers::append` meets its contract: there is room for each byte that is copied.
 use Prim.Native.Nat.{_+_, _≤_, _-_}
 use mathlib.Core.Path.{_≡_, sym}
 use native.Mathlib.Omega.{arith}
 use lib.ListN.{length, length-set}
 use lib.Seq.{length-take-le}
 use borrow.Author.Needs.{needs}
-use Rattle.cases.proofs.files.append.Statement.{statement}
-use Rattle.cases.proofs.files.append.Tie as tie
+use Rattle.cases.proofs.answers.append.Statement.{statement}
+use Rattle.cases.proofs.answers.append.Tie as tie
 
 abbrev Inv-loop : tie.InvT-loop
-Inv-loop file₀ at part room i₀ file i = (at + room ≤ length file) × (room ≤ length part) × (length file ≡ length file₀)
+Inv-loop text₀ at part room i₀ text i = (at + room ≤ length text) × (room ≤ length part) × (length text ≡ length text₀)
 
 abbrev μ-loop : tie.MeasureT-loop
-μ-loop file₀ at part room i₀ file i = room - i
+μ-loop text₀ at part room i₀ text i = room - i
 
 sub-least : tie.Need-sub-least Inv-loop μ-loop
 sub-least c = search needs
@@ -23,14 +23,14 @@ least-requires c κs = search needs
 loop-holds : tie.Need-loop-holds Inv-loop μ-loop
 loop-holds c = search needs
 
-shared-slice-read-file : tie.Need-shared-slice-read-file Inv-loop μ-loop
-shared-slice-read-file c = search needs
+shared-slice-read-text : tie.Need-shared-slice-read-text Inv-loop μ-loop
+shared-slice-read-text c = search needs
 
-add-file : tie.Need-add-file Inv-loop μ-loop
-add-file c = search needs
+add-text : tie.Need-add-text Inv-loop μ-loop
+add-text c = search needs
 
-slice-write-file : tie.Need-slice-write-file Inv-loop μ-loop
-slice-write-file c = search needs
+slice-write-text : tie.Need-slice-write-text Inv-loop μ-loop
+slice-write-text c = search needs
 
 add-i : tie.Need-add-i Inv-loop μ-loop
 add-i c = search needs
@@ -59,9 +59,9 @@ append-spec =
     sub-least
     least-requires
     loop-holds
-    shared-slice-read-file
-    add-file
-    slice-write-file
+    shared-slice-read-text
+    add-text
+    slice-write-text
     add-i
     loop-less
     loop-again
