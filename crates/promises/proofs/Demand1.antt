@@ -10,10 +10,10 @@ use native.Mathlib.Omega.{arith}
 use lib.Dec.{ltb}
 use lib.ListN.{length}
 use borrow.Author.Tests.{lt-ltb, le-ltb, ltb-true, ltb-false}
-use Rattle.theory.specs.Checks as loops
-use Rattle.theory.specs.Relations as pairs
 use Rattle.report.specs.Numbers.{four, placeNumbers, verdictNumbers, writtenNumbers}
 use Rattle.report.proofs.NumberLaws.{one-verdict}
+use Rattle.report.specs.declared.Labelled.{Labelled}
+use Rattle.report.specs.declared.Labelled.the-variants as labelled
 use Rattle.report.specs.declared.Place.{Place}
 use Rattle.report.specs.declared.Place.the-variants as place
 use Rattle.report.specs.declared.Stage.{Stage}
@@ -22,7 +22,7 @@ use Rattle.report.specs.declared.Verdict.{Verdict}
 use Rattle.report.specs.declared.Verdict.the-variants.{Accepted, Refused}
 use Rattle.report.specs.declared.Written.the-variants as written
 use Rattle.bits.specs.Bits.{Bytes}
-use Rattle.chart.specs.Bodies.{verticesOf, startOf, countOf}
+use Rattle.chart.specs.Bodies.{startOf}
 use Rattle.chart.specs.Checks as chart
 use Rattle.chart.proofs.Checks.{check-passed, check-20, check-21}
 use Rattle.chart.proofs.Refusals.{refused-places}
@@ -31,18 +31,19 @@ use Rattle.expression.specs.Table.{Checked, passed, ill-sized, malformed-at, mi
 use Rattle.expression.specs.Body.{bodyOf, writtenAfter, writtenOf}
 use Rattle.expression.proofs.Table.{checked, checked-is, passed→well-formed, well-formed→passed}
 use Rattle.expression.proofs.Chart.{body-vertices, body-start}
-use Rattle.witness.specs.declared.Labelled.{Labelled}
-use Rattle.witness.specs.declared.Labelled.the-variants as labelled
-use Rattle.witness.specs.Labellings.{labelledOf, loopsOf, answered}
-use Rattle.witness.proofs.Labellings.{outcome-of, labelled-checked, labelled-long, labelled-iff-witness}
-use Rattle.bisimulation.specs.Relations as relations
-use Rattle.bisimulation.proofs.Relations.{Answers, fails-40, fails-41, fitting, relation-answers, relation-of}
+use Rattle.witness.specs.Labellings.{labelledOf}
+use Rattle.witness.specs.LabellingAnswers.{LabellingAnswer}
+use Rattle.witness.specs.LabellingAnswers as labelling
+use Rattle.witness.proofs.Labellings.{labelled-says, labelled-iff-witness}
+use Rattle.bisimulation.specs.RelationAnswers.{RelationAnswer}
+use Rattle.bisimulation.specs.RelationAnswers as relation
+use Rattle.bisimulation.proofs.Relations.{relation-says}
 use Rattle.verdict.specs.Files.{recordsOf, Whole, RecordsChecked, too-long, cut-header, other-kind, cut-body, bytes-after}
 use Rattle.verdict.specs.Verdicts.{nodesIn, chartIn, labelsIn, relationIn, verdictOf, Fails, records-fail, nodes-fail, chart-fails, labels-fail, relation-fails}
 use Rattle.verdict.proofs.Files.{records-checked, checked-records, records-iff}
 use Rattle.verdict.proofs.Verdicts.{refused-iff}
 use Rattle.promises.specs.Accepted.{Holds}
-use Rattle.promises.specs.Demand1.{FirstMalformed, FirstNotUsedOnce, NodesPass, ChartPasses, OneLabelEach, LabelsPass, stepsIn, AtLoop, expressionIn, AtPair, indexedExpression, indexedChart, RelatedIn, Sentence, SentenceFor, says-0, says-1, says-2, says-3, says-4, says-10, says-11, says-12, says-20, says-21, says-30, says-31, says-32, says-33, says-34, says-35, says-40, says-41, says-42, says-43, says-44, says-45, ChartSentence, ChartSentenceFor, written-0, written-10, written-11, written-12, written-54}
+use Rattle.promises.specs.Demand1.{FirstMalformed, FirstNotUsedOnce, NodesPass, ChartPasses, OneLabelEach, LabelsPass, expressionIn, Sentence, SentenceFor, says-0, says-1, says-2, says-3, says-4, says-10, says-11, says-12, says-20, says-21, says-30, says-31, says-32, says-33, says-34, says-35, says-40, says-41, says-42, says-43, says-44, says-45, ChartSentence, ChartSentenceFor, written-0, written-10, written-11, written-12, written-54}
 use Rattle.promises.proofs.Accepted.{part-bytes, accepted-iff-holds}
 
 -- THE NODES
@@ -87,21 +88,6 @@ Refuses f p = verdictNumbers (verdictOf f) ≡ placeNumbers p
 
 abbrev labelsOutcome : List ℕ → Labelled
 labelsOutcome f = labelledOf (chartIn f) (labelsIn f)
-
-abbrev OutcomeIs : List ℕ → loops.Outcome → Type 0
-OutcomeIs f o = loops.Checked (verticesOf (chartIn f)) (stepsIn f) (startOf (chartIn f)) o
-
-abbrev outcomeAnswer : List ℕ → loops.Outcome → Labelled
-outcomeAnswer f o = answered (loopsOf (chartIn f) (labelsIn f)) o
-
-abbrev RelationAnswers : List ℕ → Stage → Type 0
-RelationAnswers f = Answers (expressionIn f) (chartIn f) (relationIn f)
-
-abbrev PairFailing : List ℕ → ℕ → ℕ → pairs.RelationOutcome → Type 0
-PairFailing f p q o = pairs.PairFails (indexedExpression f) (indexedChart f) (RelatedIn f) p q o
-
-abbrev pairAnswer : List ℕ → pairs.RelationOutcome → Stage
-pairAnswer f o = relations.answered (expressionIn f) (chartIn f) o
 
 -- THE CHECK
 module _ (f : List ℕ) (bytes : Bytes f) where
@@ -150,21 +136,14 @@ module _ (f : List ℕ) (bytes : Bytes f) where
   by-labels : {p : Place} → ChartPasses f → labelsOutcome f ≡ labelled.Refused p → Refuses f p
   by-labels h e = refused (labels-fail (records-test (h .before .records)) (nodes-test (h .before)) (chart-test h) e)
 
-  by-outcome : {o : loops.Outcome} → OneLabelEach f → OutcomeIs f o → labelsOutcome f ≡ outcomeAnswer f o
-  by-outcome h c = labelled-checked (chartIn f) (labelsIn f) (h .before .chart) labels-bytes (h .each) c
+  by-labelling : {p : Place} → ChartPasses f → LabellingAnswer (chartIn f) (labelsIn f) (labelled.Refused p) → Refuses f p
+  by-labelling h a = by-labels h (labelled-says (chartIn f) (labelsIn f) (chart-test h) labels-bytes _ .1 a)
 
-  by-loop : {v l : ℕ} {o : loops.Outcome} → AtLoop f v l → loops.LoopFails (stepsIn f) v l o
-      → labelsOutcome f ≡ outcomeAnswer f o
-  by-loop (h, g) c = by-outcome h (loops.fails-loop (g .reaches) (g .acyclic) (g .is-loop) (g .earlier) c)
-
-  by-relation : {p : Place} → LabelsPass f → RelationAnswers f (stage.Refused p) → Refuses f p
+  by-relation : {p : Place} → LabelsPass f → RelationAnswer (expressionIn f) (chartIn f) (relationIn f) (stage.Refused p) → Refuses f p
   by-relation h a =
       let c = h .before .before in
       let n = c .before in
-      refused (relation-fails (records-test (n .records)) (nodes-test n) (chart-test c) (labels-test h .1) (sym (relation-of a)))
-
-  by-pair : {p q : ℕ} {o : pairs.RelationOutcome} → AtPair f p q → PairFailing f p q o → RelationAnswers f (pairAnswer f o)
-  by-pair (h, c) g = fitting (c .fits) (pairs.fails-pair (c .starts) (c .related) (c .earlier) g)
+      refused (relation-fails (records-test (n .records)) (nodes-test n) (chart-test c) (labels-test h .1) (relation-says (expressionIn f) (chartIn f) (relationIn f) _ .1 a))
 
   sentence-answers : {n p q r : ℕ} → Sentence f n p q r → verdictNumbers (verdictOf f) ≡ four n p q r
   sentence-answers (says-0 h) = ap verdictNumbers (accepted-iff-holds f bytes _ _ _ .1 h)
@@ -178,19 +157,18 @@ module _ (f : List ℕ) (bytes : Bytes f) where
   sentence-answers (says-12 w h) = by-nodes w (check-12 (nodesIn f) h)
   sentence-answers (says-20 h g) = by-chart h (check-20 (chartIn f) .1 g)
   sentence-answers (says-21 {p} h g l) = by-chart h (check-21 (chartIn f) p .1 (g, l))
-  sentence-answers (says-30 h g) = by-labels h (labelled-long (chartIn f) (labelsIn f) g)
-  sentence-answers (says-31 h l) = by-labels (h .before) (by-outcome h (loops.fails-31 l))
-  sentence-answers (says-32 h c l) = by-labels (h .before) (by-outcome h (loops.fails-32 c l))
-  sentence-answers (says-33 h g) = by-labels (h .0 .before) (by-loop h (loops.fails-33 g))
-  sentence-answers (says-34 h g i) = by-labels (h .0 .before) (by-loop h (loops.fails-34 g i))
-  sentence-answers (says-35 h g i l) = by-labels (h .0 .before) (by-loop h (loops.fails-35 g i l))
-  sentence-answers (says-40 h g) = by-relation h (fails-40 (rw body-vertices g))
-  sentence-answers (says-41 h w l) = by-relation h (fails-41 (rw body-vertices w) l)
-  sentence-answers (says-42 h g) =
-      rw (← body-start (nodesIn f)) (by-relation (h .0) (fitting (h .1) (pairs.fails-42 (rw body-start g))))
-  sentence-answers (says-43 h g) = by-relation (h .0) (by-pair h (pairs.fails-43 g))
-  sentence-answers (says-44 h g l) = by-relation (h .0) (by-pair h (pairs.fails-44 g l))
-  sentence-answers (says-45 h g a l) = by-relation (h .0) (by-pair h (pairs.fails-45 g a l))
+  sentence-answers (says-30 h g) = by-labelling h (labelling.other-length g)
+  sentence-answers (says-31 h l) = by-labelling (h .before) (labelling.unreached-at (h .each) l)
+  sentence-answers (says-32 h c l) = by-labelling (h .before) (labelling.cycle-at (h .each) c l)
+  sentence-answers (says-33 h g) = by-labelling (h .0) (labelling.no-way-back (h .1) g)
+  sentence-answers (says-34 h g i) = by-labelling (h .0) (labelling.end-in-body (h .1) g i)
+  sentence-answers (says-35 h g i l) = by-labelling (h .0) (labelling.not-lower-at (h .1) g i l)
+  sentence-answers (says-40 h g) = by-relation h (relation.other-length (rw body-vertices g))
+  sentence-answers (says-41 h w l) = by-relation h (relation.no-vertex (rw body-vertices w) l)
+  sentence-answers (says-42 h g) = rw (← body-start (nodesIn f)) (by-relation (h .0) (relation.starts-unrelated (h .1) (rw body-start g)))
+  sentence-answers (says-43 h g) = by-relation (h .0) (relation.other-end (h .1) g)
+  sentence-answers (says-44 h g l) = by-relation (h .0) (relation.expression-alone (h .1) g l)
+  sentence-answers (says-45 h g a l) = by-relation (h .0) (relation.chart-alone (h .1) g a l)
 
   -- FROM THE ANSWER TO ITS SENTENCE
   at-place : {p q : Place} → q ≡ p → SentenceFor f (placeNumbers p) → SentenceFor f (placeNumbers q)
@@ -215,66 +193,30 @@ module _ (f : List ℕ) (bytes : Bytes f) where
       go (inl q) = at-place q (says-20 h (check-20 (chartIn f) .0 (e ∙ ap stage.Refused q)))
       go (inr (i, q)) = let (g, l) = check-21 (chartIn f) i .0 (e ∙ ap stage.Refused q) in at-place q (says-21 h g l)
 
-  outcome-say : {p : Place} {o : loops.Outcome} → OneLabelEach f → OutcomeIs f o
-      → outcomeAnswer f o ≡ labelled.Refused p → SentenceFor f (placeNumbers p)
-  outcome-say h (loops.all-pass c d) e = let z : _≡_ {A = ℕ} 0 1 = cc in absurd (omega arith)
-  outcome-say {p} h (loops.fails-31 {p = x} l) e = let i : p ≡ place.Unreached x = cc in at-place i (says-31 h l)
-  outcome-say {p} h (loops.fails-32 {p = x} c l) e = let i : p ≡ place.BranchCycle x = cc in at-place i (says-32 h c l)
-  outcome-say {p} h (loops.fails-loop {v} {l} c n o g (loops.fails-33 a)) e =
-      let i : p ≡ place.LoopNoReturn v l = cc in
-      at-place i (says-33 (h, record { reaches = c; acyclic = n; is-loop = o; earlier = g }) a)
-  outcome-say {p} h (loops.fails-loop {v} {l} c n o g (loops.fails-34 a b)) e =
-      let i : p ≡ place.LoopEndInside v l = cc in
-      at-place i (says-34 (h, record { reaches = c; acyclic = n; is-loop = o; earlier = g }) a b)
-  outcome-say {p} h (loops.fails-loop {v} {l} c n o g (loops.fails-35 {r} a b d)) e =
-      let i : p ≡ place.LoopNotLower v l r = cc in
-      at-place i (says-35 (h, record { reaches = c; acyclic = n; is-loop = o; earlier = g }) a b d)
+  labels-say : {p : Place} → ChartPasses f → LabellingAnswer (chartIn f) (labelsIn f) (labelled.Refused p) → SentenceFor f (placeNumbers p)
+  labels-say h (labelling.other-length g) = says-30 h g
+  labels-say h (labelling.unreached-at g l) = says-31 (record { before = h; each = g }) l
+  labels-say h (labelling.cycle-at g c l) = says-32 (record { before = h; each = g }) c l
+  labels-say h (labelling.no-way-back g i) = says-33 (h, g) i
+  labels-say h (labelling.end-in-body g i e) = says-34 (h, g) i e
+  labels-say h (labelling.not-lower-at g i e l) = says-35 (h, g) i e l
 
-  labels-say : {p : Place} → ChartPasses f → labelsOutcome f ≡ labelled.Refused p → SentenceFor f (placeNumbers p)
-  labels-say {p} h e = by-cases (ℕ-discrete (length (labelsIn f)) (countOf (chartIn f)))
-      (λ g.
-      let c = outcome-of (chartIn f) (labelsIn f) (h .chart) labels-bytes in
-      outcome-say (record { before = h; each = g }) c (sym (by-outcome (record { before = h; each = g }) c) ∙ e))
-      (λ g.
-      let l = labelled-long (chartIn f) (labelsIn f) g in
-      let i : p ≡ place.LabelsLength (length (labelsIn f)) = cc in
-      at-place i (says-30 h g))
-
-  pair-say : {p : Place} {u v : ℕ} {o : pairs.RelationOutcome} → AtPair f u v → PairFailing f u v o
-      → pairAnswer f o ≡ stage.Refused p → SentenceFor f (placeNumbers p)
-  pair-say {p} {u} {v} h (pairs.fails-43 g) e =
-      let i : p ≡ place.PairEnds u v = cc in
-      at-place i (says-43 h g)
-  pair-say {p} {u} {v} h (pairs.fails-44 {r} g l) e =
-      let i : p ≡ place.PairExpressionStep u v r = cc in
-      at-place i (says-44 h g l)
-  pair-say {p} {u} {v} h (pairs.fails-45 {r} g a l) e =
-      let i : p ≡ place.PairChartStep u v r = cc in
-      at-place i (says-45 h g a l)
-
-  relation-say : {p : Place} {s : Stage} → LabelsPass f → RelationAnswers f s → s ≡ stage.Refused p
-      → SentenceFor f (placeNumbers p)
-  relation-say {p} h (fails-40 g) e =
-      let i : p ≡ place.RelationLength (length (relationIn f)) = cc in
-      at-place i (says-40 h (rw body-vertices at g))
-  relation-say {p} h (fails-41 {u} {v} w l) e =
-      let i : p ≡ place.PairNoVertex u v = cc in
-      at-place i (says-41 h (rw body-vertices at w) l)
-  relation-say h (fitting F (pairs.all-pass s d)) e = let z : _≡_ {A = ℕ} 0 1 = cc in absurd (omega arith)
-  relation-say {p} h (fitting F (pairs.fails-42 g)) e =
-      let i : p ≡ place.PairStarts (nodes.count (nodesIn f)) (startOf (chartIn f)) = cc (body-start (nodesIn f)) in
-      at-place i (says-42 (h, F) (rw body-start at g))
-  relation-say h (fitting F (pairs.fails-pair s r g c)) e =
-      pair-say (h, record { fits = F; starts = s; related = r; earlier = g }) c e
+  relation-say : {p : Place} → LabelsPass f → RelationAnswer (expressionIn f) (chartIn f) (relationIn f) (stage.Refused p) → SentenceFor f (placeNumbers p)
+  relation-say h (relation.other-length g) = says-40 h (rw body-vertices at g)
+  relation-say h (relation.no-vertex w l) = says-41 h (rw body-vertices at w) l
+  relation-say h (relation.starts-unrelated F g) = rw (body-start (nodesIn f)) (says-42 (h, F) (rw body-start at g))
+  relation-say h (relation.other-end c g) = says-43 (h, c) g
+  relation-say h (relation.expression-alone c g l) = says-44 (h, c) g l
+  relation-say h (relation.chart-alone c g a l) = says-45 (h, c) g a l
 
   fails-say : {p : Place} → Fails f p → SentenceFor f (placeNumbers p)
   fails-say (records-fail e) = records-say (subst (RecordsChecked f) e (records-checked f))
   fails-say (nodes-fail a e) = nodes-say (records-iff f .0 a) (subst (Checked (nodesIn f)) e (checked (nodesIn f)))
   fails-say (chart-fails a b e) = chart-say (nodes-pass a b) e
-  fails-say (labels-fail a b c e) = labels-say (chart-passes (nodes-pass a b) c) e
+  fails-say (labels-fail a b c e) = labels-say (chart-passes (nodes-pass a b) c) (labelled-says (chartIn f) (labelsIn f) c labels-bytes _ .0 e)
   fails-say (relation-fails a b c d e) =
       let h = labels-pass (chart-passes (nodes-pass a b) c) d in
-      relation-say h (relation-answers (expressionIn f) (chartIn f) (relationIn f)) e
+      relation-say h (relation-says (expressionIn f) (chartIn f) (relationIn f) _ .0 e)
 
   -- some sentence holds of every file, and just one
   pub answer-says : SentenceFor f (verdictNumbers (verdictOf f))

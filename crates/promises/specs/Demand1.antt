@@ -1,7 +1,7 @@
 -- Demand 1, by the numbers: what document 01 says of each answer `n p q r` of the check, unused places 0, in the order of
 -- its list of refusals; and the same for the expression's chart. A sentence for n also says that the checks before n pass.
 use mathlib.Core.Path.{_≡_}
-use mathlib.Core.Logic.{_≢_, _⊎_, _↔_}
+use mathlib.Core.Logic.{_≢_, _⊎_}
 use mathlib.Core.Bool.{false}
 use mathlib.Core.List.{List}
 use Prim.Native.Nat.{ℕ, suc, _+_, _*_, _<_, _≤_}
@@ -17,10 +17,10 @@ use Rattle.chart.specs.Bodies.{verticesOf, startOf, countOf}
 use Rattle.chart.specs.Steps.{StepsOf}
 use Rattle.expression.specs.Table as nodes
 use Rattle.expression.specs.Body.{bodyOf}
-use Rattle.witness.specs.Meanings.{FirstLoop, Inside}
+use Rattle.witness.specs.LabellingAnswers as labelling
 use Rattle.bisimulation.specs.Relations.{indexedOf}
 use Rattle.bisimulation.specs.Answers.{Related, Stray, Fits}
-use Rattle.bisimulation.specs.Meaning.{Comes}
+use Rattle.bisimulation.specs.RelationAnswers.{Comes, EndsAgree}
 use Rattle.verdict.specs.Files.{pairAt, endAt, offsetOf, Whole, Before}
 use Rattle.verdict.specs.Verdicts.{nodesIn, chartIn, labelsIn, relationIn}
 use Rattle.promises.specs.Accepted.{Holds}
@@ -79,10 +79,10 @@ pub record LabelsPass (f : List ℕ) : Type 0 where
 
 -- THE LOOPS. The checks come to the loop (v, l): 30 to 32 pass, and every earlier loop does; w is in its body
 abbrev pub AtLoop : List ℕ → ℕ → ℕ → Type 0
-AtLoop f v l = OneLabelEach f × FirstLoop (chartIn f) (labelsIn f) v l
+AtLoop f v l = ChartPasses f × labelling.FirstLoop (chartIn f) (labelsIn f) v l
 
 abbrev pub InBody : List ℕ → ℕ → ℕ → ℕ → Type 0
-InBody f v l w = Inside (chartIn f) (labelsIn f) v l w
+InBody f v l w = labelling.InBody (chartIn f) (labelsIn f) v l w
 
 -- THE PAIRS, of a vertex of the expression's chart and one of the file's
 abbrev pub expressionIn : List ℕ → List ℕ
@@ -94,9 +94,6 @@ PairsFit f = LabelsPass f × Fits (expressionIn f) (chartIn f) (relationIn f)
 
 abbrev pub AtPair : List ℕ → ℕ → ℕ → Type 0
 AtPair f p q = LabelsPass f × Comes (expressionIn f) (chartIn f) (relationIn f) p q
-
-abbrev pub BothEnd : ℕ → ℕ → Type 0
-BothEnd p q = (p ≡ 0) ↔ (q ≡ 0)
 
 -- the two charts, by the index of their transitions
 abbrev pub indexedExpression : List ℕ → Indexed
@@ -166,11 +163,11 @@ pub data Sentence (f : List ℕ) : (n p q r : ℕ) → Type 0 where
   says-42 : PairsFit f → ¬ RelatedIn f (nodes.count (nodesIn f)) (startOf (chartIn f))
       → Sentence f 42 (nodes.count (nodesIn f)) (startOf (chartIn f)) 0
   -- then by row and column: one is the end, the other not
-  says-43 : {p q : ℕ} → AtPair f p q → ¬ BothEnd p q → Sentence f 43 p q 0
+  says-43 : {p q : ℕ} → AtPair f p q → ¬ EndsAgree p q → Sentence f 43 p q 0
   -- expression transition r unmatched; the lowest index
-  says-44 : {p q r : ℕ} → AtPair f p q → BothEnd p q → Least (LeftUnmatched f p q) r → Sentence f 44 p q r
+  says-44 : {p q r : ℕ} → AtPair f p q → EndsAgree p q → Least (LeftUnmatched f p q) r → Sentence f 44 p q r
   -- chart transition r unmatched, those of the expression's chart being matched; the lowest index
-  says-45 : {p q r : ℕ} → AtPair f p q → BothEnd p q → LeftMatched f p q → Least (RightUnmatched f p q) r
+  says-45 : {p q r : ℕ} → AtPair f p q → EndsAgree p q → LeftMatched f p q → Least (RightUnmatched f p q) r
       → Sentence f 45 p q r
 
 -- the sentence for four numbers that are given as one value
