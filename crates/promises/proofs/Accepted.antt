@@ -21,7 +21,8 @@ use Rattle.witness.specs.Labellings.{labelledOf, loopsOf}
 use Rattle.witness.proofs.Labellings.{labelled-iff-witness, labelled-number, labelled-loops, loops-number}
 use Rattle.bisimulation.specs.Relations.{relationOf}
 use Rattle.bisimulation.proofs.Relations.{relation-iff-bisimulation}
-use Rattle.verdict.specs.Files.{fileOf, pairAt, offsetOf, bodyAt, Whole}
+use Rattle.bits.specs.Packed.{twoAt}
+use Rattle.verdict.specs.Files.{fileOf, offsetOf, bodyAt, Whole}
 use Rattle.verdict.specs.Verdicts.{nodesIn, chartIn, labelsIn, relationIn, verdictOf}
 use Rattle.verdict.proofs.Files.{records-iff, records-whole}
 use Rattle.verdict.proofs.Layouts.{whole-layout, layout-whole}
@@ -42,7 +43,7 @@ taken-bytes (suc n) (x ∷ l) h (suc i) = taken-bytes n l (λ j. h (suc j)) i
 
 pub part-bytes : (f : List ℕ) (k : ℕ) → Bytes f → Bytes (bodyAt f k)
 unfolding bodyAt
-part-bytes f k bytes = taken-bytes (pairAt f (offsetOf f k)) (drop (offsetOf f k + 4) f) (λ i. rw getD-drop (bytes (offsetOf f k + 4 + i)))
+part-bytes f k bytes = taken-bytes (twoAt f (offsetOf f k)) (drop (offsetOf f k + 4) f) (λ i. rw getD-drop (bytes (offsetOf f k + 4 + i)))
 
 module _ (f : List ℕ) (bytes : Bytes f) where
   pub accepted-holds : (v t l : ℕ) → verdictOf f ≡ Accepted v t l → Holds f v t l

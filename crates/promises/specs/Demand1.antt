@@ -21,7 +21,8 @@ use Rattle.witness.specs.LabellingAnswers as labelling
 use Rattle.bisimulation.specs.Relations.{indexedOf}
 use Rattle.bisimulation.specs.Answers.{Related, Stray, Fits}
 use Rattle.bisimulation.specs.RelationAnswers.{Comes, EndsAgree}
-use Rattle.verdict.specs.Files.{pairAt, endAt, offsetOf, Whole, Before}
+use Rattle.bits.specs.Packed.{twoAt}
+use Rattle.verdict.specs.Files.{endAt, offsetOf, Whole, Before}
 use Rattle.verdict.specs.Verdicts.{nodesIn, chartIn, labelsIn, relationIn}
 use Rattle.promises.specs.Accepted.{Holds}
 
@@ -29,11 +30,11 @@ use Rattle.promises.specs.Accepted.{Holds}
 abbrev pub Incomplete : List ℕ → ℕ → Type 0
 Incomplete f k =
     (length f < offsetOf f k + 4)
-    ⊎ ((offsetOf f k + 4 ≤ length f) × (pairAt f (offsetOf f k + 2) ≡ suc k) × (length f < endAt f (offsetOf f k)))
+    ⊎ ((offsetOf f k + 4 ≤ length f) × (twoAt f (offsetOf f k + 2) ≡ suc k) × (length f < endAt f (offsetOf f k)))
 
 -- its header is there, and has another kind
 abbrev pub WrongKind : List ℕ → ℕ → ℕ → Type 0
-WrongKind f k found = (offsetOf f k + 4 ≤ length f) × (pairAt f (offsetOf f k + 2) ≡ found) × (found ≢ suc k)
+WrongKind f k found = (offsetOf f k + 4 ≤ length f) × (twoAt f (offsetOf f k + 2) ≡ found) × (found ≢ suc k)
 
 -- THE NODES, in the body of kind 1. Node p is malformed; node p is not the root and not an operand exactly once
 abbrev pub Malformed : List ℕ → ℕ → Type 0

@@ -6,6 +6,7 @@ use mathlib.Core.Logic.{_≢_}
 use Prim.Native.Nat.{ℕ, zero, suc, _+_, _*_, _/_, _%_, _<_, _≤_}
 use lib.Dec.{eqb, ltb}
 use lib.ListN.{length, getD, take, drop}
+use Rattle.bits.specs.Packed.{twoAt}
 use Rattle.report.specs.declared.Place.the-variants.{File, Record, RecordKind, FileOffset}
 use Rattle.report.specs.declared.Stage.{Stage}
 use Rattle.report.specs.declared.Stage.the-variants.{Passed, Refused}
@@ -26,20 +27,17 @@ recordOf kind body = twoBytes (length body) ++ (twoBytes kind ++ body)
 abbrev pub fileOf : List ℕ → List ℕ → List ℕ → List ℕ → List ℕ
 fileOf a b c d = recordOf 1 a ++ (recordOf 2 b ++ (recordOf 3 c ++ recordOf 4 d))
 
--- THE TESTS. The number at an offset; the offset after the record at an offset
-abbrev pub pairAt : List ℕ → ℕ → ℕ
-pairAt f at = getD f at 0 + 256 * getD f (at + 1) 0
-
+-- THE TESTS. The offset after the record at an offset
 abbrev pub endAt : List ℕ → ℕ → ℕ
-endAt f at = at + 4 + pairAt f at
+endAt f at = at + 4 + twoAt f at
 
 -- 2 and 3 of the record of this kind at an offset: header, kind, body
 unfoldable pub recordStage : List ℕ → ℕ → ℕ → Stage
 recordStage f kind at =
     cond (ltb (length f) (at + 4)) (Refused (Record kind))
-    (cond (eqb (pairAt f (at + 2)) kind)
+    (cond (eqb (twoAt f (at + 2)) kind)
     (cond (ltb (length f) (endAt f at)) (Refused (Record kind)) Passed)
-    (Refused (RecordKind kind (pairAt f (at + 2)))))
+    (Refused (RecordKind kind (twoAt f (at + 2)))))
 
 -- the n records from an offset on, then 4
 unfoldable pub recordsFrom : List ℕ → ℕ → ℕ → ℕ → Stage
@@ -55,12 +53,12 @@ offsetOf f zero = 0
 offsetOf f (suc k) = endAt f (offsetOf f k)
 
 unfoldable pub bodyAt : List ℕ → ℕ → List ℕ
-bodyAt f k = take (pairAt f (offsetOf f k)) (drop (offsetOf f k + 4) f)
+bodyAt f k = take (twoAt f (offsetOf f k)) (drop (offsetOf f k + 4) f)
 
 -- what the refusals 2 and 3 ask of a record at an offset
 pub record Fits (f : List ℕ) (kind at : ℕ) : Type 0 where
   pub header : at + 4 ≤ length f
-  pub is-kind : pairAt f (at + 2) ≡ kind
+  pub is-kind : twoAt f (at + 2) ≡ kind
   pub body : endAt f at ≤ length f
 
 -- a file of four records of kinds 1 to 4, nothing after
@@ -78,8 +76,8 @@ pub data RecordsChecked (f : List ℕ) : Stage → Type 0 where
   too-long : 43536 < length f → RecordsChecked f (Refused File)
   cut-header : (k : ℕ) → k < 4 → Before f k → length f < offsetOf f k + 4 → RecordsChecked f (Refused (Record (suc k)))
   other-kind : (k : ℕ) → k < 4 → Before f k → offsetOf f k + 4 ≤ length f
-      → pairAt f (offsetOf f k + 2) ≢ suc k → RecordsChecked f (Refused (RecordKind (suc k) (pairAt f (offsetOf f k + 2))))
+      → twoAt f (offsetOf f k + 2) ≢ suc k → RecordsChecked f (Refused (RecordKind (suc k) (twoAt f (offsetOf f k + 2))))
   cut-body : (k : ℕ) → k < 4 → Before f k → offsetOf f k + 4 ≤ length f
-      → pairAt f (offsetOf f k + 2) ≡ suc k → length f < endAt f (offsetOf f k) → RecordsChecked f (Refused (Record (suc k)))
+      → twoAt f (offsetOf f k + 2) ≡ suc k → length f < endAt f (offsetOf f k) → RecordsChecked f (Refused (Record (suc k)))
   bytes-after : Before f 4 → offsetOf f 4 < length f → RecordsChecked f (Refused (FileOffset (offsetOf f 4)))
   whole : Whole f → RecordsChecked f Passed

@@ -4,21 +4,14 @@ ghost use Prim.Native.Nat.{_+_, _*_, _≤_, _<_};
 ghost use lib.ListN.{length};
 ghost use Rattle.expression.specs.Body.{bodyOf};
 ghost use Rattle.bisimulation.specs.Relations.{relationOf};
-ghost use Rattle.verdict.specs.Files.{pairAt, recordStage, recordsOf, offsetOf, bodyAt};
+ghost use Rattle.verdict.specs.Files.{recordStage, recordsOf, offsetOf, bodyAt};
 ghost use Rattle.verdict.specs.Verdicts.{verdictOf, BothPass, ComeToPairs};
 use bits::byte;
+use bits::read_u16;
 use report::Labelled;
 use report::Place;
 use report::Stage;
 use report::Verdict;
-
-// A number of two bytes, the low one first.
-fn pair(file: &[u8], at: usize) -> usize
-    requires { ⌜ at + 2 ≤ length (now file) ⌝ }
-    ensures { λ r. ⌜ (r ≡ pairAt (now (file .entry)) at) × (r < 65536) ⌝ }
-{
-    byte(file, at) + 256 * byte(file, at + 1)
-}
 
 // 2 and 3 of the record of this kind at an offset.
 fn record(file: &[u8], kind: usize, at: usize) -> Stage
@@ -28,11 +21,11 @@ fn record(file: &[u8], kind: usize, at: usize) -> Stage
     if file.len() - at < 4 {
         return Stage::Refused(Place::Record(kind));
     }
-    let found = pair(file, at + 2);
+    let found = read_u16(file, at + 2);
     if found != kind {
         return Stage::Refused(Place::RecordKind(kind, found));
     }
-    if file.len() - at - 4 < pair(file, at) {
+    if file.len() - at - 4 < read_u16(file, at) {
         return Stage::Refused(Place::Record(kind));
     }
     Stage::Passed
@@ -52,7 +45,7 @@ fn records(file: &[u8]) -> Stage
         let Stage::Passed = stage else {
             return stage;
         };
-        at = at + 4 + pair(file, at);
+        at = at + 4 + read_u16(file, at);
         kind += 1;
     }
     if at < file.len() {
@@ -69,7 +62,7 @@ fn offset(file: &[u8], k: usize) -> usize
     let mut at: usize = 0;
     let mut i: usize = 0;
     while i < k {
-        at = at + 4 + pair(file, at);
+        at = at + 4 + read_u16(file, at);
         i += 1;
     }
     at
@@ -82,7 +75,7 @@ fn body(file: &[u8], k: usize) -> &[u8]
 {
     let at = offset(file, k);
     let start = at + 4;
-    let end = start + pair(file, at);
+    let end = start + read_u16(file, at);
     &file[start..end]
 }
 
