@@ -23,9 +23,9 @@ use Rattle.chart.specs.Bodies.{verticesOf, startOf}
 use Rattle.chart.specs.Steps.{transitionsOf}
 use Rattle.chart.proofs.Relations.{acts-member}
 use Rattle.bisimulation.specs.Relations.{indexedOf, relatedTest, strayTest, answered, outcomeOf, relationOf}
-use Rattle.bisimulation.specs.Answers.{Related, Stray, StrayAnswer, Fits}
+use Rattle.bisimulation.specs.Answers.{Related, Stray, Fits}
 use Rattle.bisimulation.specs.RelationAnswers.{Comes, RelationAnswer, passed, other-length, no-vertex, starts-unrelated, other-end, expression-alone, chart-alone}
-use Rattle.bisimulation.proofs.Rows.{related-column, related-row}
+use Rattle.bisimulation.proofs.RowLaws.{related-column, related-row}
 
 -- the answer of 40 to 45, with its place
 pub data Answers (e b relation : List ℕ) : Stage → Type 0 where
@@ -34,7 +34,7 @@ pub data Answers (e b relation : List ℕ) : Stage → Type 0 where
   fitting : {o : RelationOutcome} → Fits e b relation → RelationChecked (indexedOf e) (indexedOf b) (Related relation) o → Answers e b relation (answered e b o)
 
 -- THERE IS ONLY ONE ANSWER
-one-first : {P : ℕ → ℕ → Type 0} {u v a c : ℕ} → FirstPair P u v → FirstPair P a c → (u ≡ a) × (v ≡ c)
+pub one-first : {P : ℕ → ℕ → Type 0} {u v a c : ℕ} → FirstPair P u v → FirstPair P a c → (u ≡ a) × (v ≡ c)
 one-first {P} {u} {v} {a} {c} f g = go (same-or-earlier u v a c)
   where
     go : ((u ≡ a) × (v ≡ c)) ⊎ (Earlier u v a c ⊎ Earlier a c u v) → (u ≡ a) × (v ≡ c)
@@ -68,14 +68,17 @@ fits-of {e} {b} {relation} w h = record { whole = w; inside = λ u v r. (related
         go true e = ltb-true v (verticesOf b) e
         go false e = absurd (h u v (ltb-false v (verticesOf b) e, r))
 
--- what `opening` knows once 41 passes
-pub fits-after : {e b relation : List ℕ} {n : ℕ} {s : Stage} → n ≡ verticesOf e → length relation ≡ 16 * n → StrayAnswer b relation s → s ≡ Passed → Fits e b relation
-fits-after {e} {b} h w a q = fits-of {e = e} (rw h at w) (a .passed q)
-
 -- THE TESTS GIVE IT
 decides-stray : (b relation : List ℕ) (u v : ℕ) → Decides (strayTest b relation u v) (Stray b relation u v)
 unfolding strayTest
 decides-stray b relation u v = decides-and (decides-leb (verticesOf b) v) ((λ r. r), (λ r. r))
+
+-- 41 of so many rows
+pub strays-found : (b relation : List ℕ) (rows : ℕ) → length relation ≡ 16 * rows
+    → (firstRow (strayTest b relation) rows 128 < rows
+    → FirstPair (Stray b relation) (firstRow (strayTest b relation) rows 128) (lowest (strayTest b relation (firstRow (strayTest b relation) rows 128)) 0 128))
+    × (rows ≤ firstRow (strayTest b relation) rows 128 → (a c : ℕ) → ¬ Stray b relation a c)
+strays-found b relation rows w = first-pair (decides-stray b relation) rows 128 (λ a c s. (related-row relation rows a c w (s .1), related-column relation a c (s .1)))
 
 module _ (e b relation : List ℕ) where
   outcome-checked : Fits e b relation → RelationChecked (indexedOf e) (indexedOf b) (Related relation) (outcomeOf e b relation)
@@ -92,14 +95,11 @@ module _ (e b relation : List ℕ) where
       v : ℕ
       v = lowest (strayTest b relation u) 0 128
 
-      found : length relation ≡ 16 * verticesOf e → (u < verticesOf e → FirstPair (Stray b relation) u v) × (verticesOf e ≤ u → (a c : ℕ) → ¬ Stray b relation a c)
-      found w = first-pair (decides-stray b relation) (verticesOf e) 128 (λ a c s. (related-row relation (verticesOf e) a c w (s .1), related-column relation a c (s .1)))
-
       go : (x y : Bool) → Decides x (length relation ≡ 16 * verticesOf e) → ltb u (verticesOf e) ≡ y → Answers e b relation (cond x (cond y (Refused (PairNoVertex u v)) (answered e b (outcomeOf e b relation))) (Refused (RelationLength (length relation))))
       go false y d h = fails-40 (not-so d refl)
-      go true true d h = fails-41 (d .0 refl) (found (d .0 refl) .0 (ltb-true u (verticesOf e) h))
+      go true true d h = fails-41 (d .0 refl) (strays-found b relation (verticesOf e) (d .0 refl) .0 (ltb-true u (verticesOf e) h))
       go true false d h =
-          let F = fits-of (d .0 refl) (found (d .0 refl) .1 (ltb-false u (verticesOf e) h)) in
+          let F = fits-of (d .0 refl) (strays-found b relation (verticesOf e) (d .0 refl) .1 (ltb-false u (verticesOf e) h)) in
           fitting F (outcome-checked F)
 
 pub relation-of : {e b relation : List ℕ} {s : Stage} → Answers e b relation s → s ≡ relationOf e b relation
@@ -122,8 +122,8 @@ module _ {S S′ T T′ : ℕ → ℕ → ℕ → Type 0} (s : (u a w : ℕ) →
 -- a body's transitions by their index, and as a list
 indexed-member : (b : List ℕ) (u a w : ℕ) → indexed (indexedOf b) .Step u a w ↔ List·Memᴰ (u, a, w) (transitionsOf b)
 indexed-member b u a w = (
-  (λ (i, h, f, g, k). acts-member b u a w .0 (record { at = i; within = h; leaves = f; acts = g; enters = k })),
-  (λ m. let z = acts-member b u a w .1 m in (z .at, z .within, z .leaves, z .acts, z .enters)),
+  (λ (i, h, f, g, k). acts-member b u a w .0 (record { at = i; within = h; leaves = f; enters = k; holds = record { is = g } })),
+  (λ m. let z = acts-member b u a w .1 m in (z .at, z .within, z .leaves, z .holds .is, z .enters)),
 )
 
 back-again : {A B : Type 0} → A ↔ B → B ↔ A

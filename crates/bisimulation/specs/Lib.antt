@@ -1,8 +1,7 @@
--- The definitions. The meaning: what each answer of 40 to 45 says
+-- The definitions. The meaning: RelationAnswers, with Related, Fits and Passes in Answers. The tests: Relations. The
+-- rest of Answers, Suspects, Places and Pairs are contracts of the code, and only serve proofs.
 pub mod RelationAnswers
--- the test
 pub mod Relations
--- the contracts of the code's parts
 pub mod Answers
 pub mod Suspects
 pub mod Places

@@ -1,6 +1,6 @@
 -- What document 01 says of each answer of 40 to 45.
 use mathlib.Core.Path.{_≡_}
-use mathlib.Core.Logic.{_≢_, _↔_}
+use mathlib.Core.Logic.{_≢_}
 use mathlib.Core.List.{List}
 use Prim.Native.Nat.{ℕ, _*_}
 use lib.ListN.{length}
@@ -8,13 +8,14 @@ use Rattle.theory.specs.Least.{Least, Earlier, FirstPair}
 use Rattle.theory.specs.Systems.{Bisimulation}
 use Rattle.theory.specs.Transitions.{chart}
 use Rattle.theory.specs.Relations.{Unmatched, AllMatched, converse}
-use Rattle.report.specs.declared.Place.the-variants.{RelationLength, PairNoVertex, PairStarts, PairEnds, PairExpressionStep, PairChartStep}
+use Rattle.report.specs.declared.Place.the-variants.{RelationLength, PairNoVertex, PairStarts}
+use Rattle.report.specs.declared.Place.the-variants.{PairEnds, PairExpressionStep, PairChartStep}
 use Rattle.report.specs.declared.Stage.{Stage}
 use Rattle.report.specs.declared.Stage.the-variants.{Passed, Refused}
 use Rattle.chart.specs.Bodies.{verticesOf, startOf}
 use Rattle.chart.specs.Steps.{transitionsOf}
 use Rattle.bisimulation.specs.Relations.{indexedOf}
-use Rattle.bisimulation.specs.Answers.{Related, Stray, Fits, Passes}
+use Rattle.bisimulation.specs.Answers.{Related, Stray, Fits, EndsAgree, Passes}
 
 -- 40 to 42 pass, (p, q) is related, and every earlier related pair passes
 pub record Comes (expression body relation : List ℕ) (p q : ℕ) : Type 0 where
@@ -23,12 +24,8 @@ pub record Comes (expression body relation : List ℕ) (p q : ℕ) : Type 0 wher
   pub related : Related relation p q
   pub earlier : (u v : ℕ) → Earlier u v p q → Related relation u v → Passes expression body relation u v
 
--- both are the end, or neither is
-abbrev pub EndsAgree : ℕ → ℕ → Type 0
-EndsAgree p q = (p ≡ 0) ↔ (q ≡ 0)
-
 module _ (expression body relation : List ℕ) where
-  -- transition r of the expression's chart is the lowest that nothing matches at the pair (p, q), and of the file's chart
+  -- transition r of the expression's chart is the lowest that nothing matches at (p, q); the same of the file's chart
   abbrev pub FirstOfExpression : (p q r : ℕ) → Type 0
   FirstOfExpression p q = Least (Unmatched (indexedOf expression) (indexedOf body) (Related relation) p q)
 
@@ -39,10 +36,12 @@ module _ (expression body relation : List ℕ) where
   pub data RelationAnswer : Stage → Type 0 where
     -- every bit is one of a vertex, and the bits are a bisimulation of the two charts
     passed : Fits expression body relation
-        → Bisimulation (chart (startOf expression) (transitionsOf expression)) (chart (startOf body) (transitionsOf body)) (Related relation)
+        → Bisimulation (chart (startOf expression) (transitionsOf expression))
+        (chart (startOf body) (transitionsOf body)) (Related relation)
         → RelationAnswer Passed
     -- 40
-    other-length : length relation ≢ 16 * verticesOf expression → RelationAnswer (Refused (RelationLength (length relation)))
+    other-length : length relation ≢ 16 * verticesOf expression
+        → RelationAnswer (Refused (RelationLength (length relation)))
     -- 41
     no-vertex : {p q : ℕ} → length relation ≡ 16 * verticesOf expression → FirstPair (Stray body relation) p q
         → RelationAnswer (Refused (PairNoVertex p q))
@@ -50,7 +49,8 @@ module _ (expression body relation : List ℕ) where
     starts-unrelated : Fits expression body relation → ¬ Related relation (startOf expression) (startOf body)
         → RelationAnswer (Refused (PairStarts (startOf expression) (startOf body)))
     -- 43
-    other-end : {p q : ℕ} → Comes expression body relation p q → ¬ EndsAgree p q → RelationAnswer (Refused (PairEnds p q))
+    other-end : {p q : ℕ} → Comes expression body relation p q → ¬ EndsAgree p q
+        → RelationAnswer (Refused (PairEnds p q))
     -- 44
     expression-alone : {p q r : ℕ} → Comes expression body relation p q → EndsAgree p q → FirstOfExpression p q r
         → RelationAnswer (Refused (PairExpressionStep p q r))

@@ -1,7 +1,7 @@
 -- The verdict on a yard file: the stages in document 01's order, and the check that fails.
 use mathlib.Core.Path.{_≡_}
 use mathlib.Core.List.{List}
-use Prim.Native.Nat.{ℕ, _≤_}
+use Prim.Native.Nat.{ℕ}
 use Rattle.report.specs.declared.Labelled.{Labelled}
 use Rattle.report.specs.declared.Labelled.the-variants as labelled
 use Rattle.report.specs.declared.Place.{Place}
@@ -63,7 +63,6 @@ BothPass nodes b = (expression.checkOf nodes ≡ stage.Passed) × (chart.checkOf
 pub record ComeToPairs (nodes : List ℕ) (vertices : ℕ) (b relation : List ℕ) : Type 0 where
   pub both : BothPass nodes b
   pub is-number : vertices ≡ verticesOf (bodyOf nodes)
-  pub few : vertices ≤ 128
   pub fits : Fits (bodyOf nodes) b relation
   pub starts : Related relation (startOf (bodyOf nodes)) (startOf b)
 

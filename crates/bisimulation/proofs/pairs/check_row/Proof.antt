@@ -9,17 +9,17 @@ use Rattle.bisimulation.specs.Pairs.{Ready, Sought}
 use Rattle.bisimulation.proofs.PairChecks.{row-stop, row-passed}
 use native.Mathlib.Omega.{arith}
 use borrow.Author.Needs.{needs}
-use Rattle.bisimulation.proofs.pairs.row.Statement.{statement}
-use Rattle.bisimulation.proofs.pairs.row.Tie as tie
+use Rattle.bisimulation.proofs.pairs.check_row.Statement.{statement}
+use Rattle.bisimulation.proofs.pairs.check_row.Tie as tie
 
 abbrev Inv-loop : tie.InvT-loop
-Inv-loop into acting words table body rows u columns v₀ v = Ready into acting words body rows × (length table ≡ 256) × (u < 128) × (columns ≡ verticesOf body) × ((e relation : List ℕ) → Sought into acting words table body e relation → (w : ℕ) → w < v → Related relation u w → Passes e body relation u w)
+Inv-loop into acting words table body begins u columns v₀ v = Ready into acting words body begins × (length table ≡ 256) × (u < 128) × (columns ≡ verticesOf body) × ((e relation : List ℕ) → Sought into acting words table body e relation → (w : ℕ) → w < v → Related relation u w → Passes e body relation u w)
 
 abbrev μ-loop : tie.MeasureT-loop
-μ-loop into acting words table body rows u columns v₀ v = columns - v
+μ-loop into acting words table body begins u columns v₀ v = columns - v
 
 byte-requires : tie.Need-byte-requires Inv-loop μ-loop
-byte-requires c κs = let l = c .before .pre .0 .formed .header .long in omega arith
+byte-requires c κs = let l = c .before .pre .0 .tabled .formed .header .long in omega arith
 
 loop-holds : tie.Need-loop-holds Inv-loop μ-loop
 loop-holds c = let p = c .before .before .pre in (p .0, p .1, p .2, c .byte .ensures .0, λ e relation S w h. absurd (omega arith))
@@ -50,8 +50,8 @@ loop-again c =
 returns-2 : tie.Need-returns-2 Inv-loop μ-loop
 returns-2 c = λ e relation S. row-passed (λ v r. c .before .loop .inv .4 e relation S v (omega (arith, S .fits .inside _ v r .1, c .before .loop .inv .3, c .loop-test .left)) r)
 
-pub row-spec : {M : Type 1} → statement M
-row-spec =
+pub check-row-spec : {M : Type 1} → statement M
+check-row-spec =
     tie.close
     (tie.spec
     Inv-loop
