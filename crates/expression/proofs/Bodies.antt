@@ -16,7 +16,7 @@ use Rattle.theory.proofs.Counts.{transitions-le}
 use Rattle.expression.specs.Table.{node, count, checkOf, WellFormed}
 use Rattle.expression.specs.Body.{fourOf, chartOf, bodyOf, writtenOf, bufferOf}
 use Rattle.expression.proofs.Table.{tree, well-formed→passed}
-use Rattle.expression.proofs.Rows.{length-flat}
+use Rattle.expression.proofs.Stores.{length-flat}
 
 pub body-long : (s : List ℕ) → length (bodyOf s) ≡ 4 + 4 * length (chartOf s)
 unfolding bodyOf fourOf

@@ -8,7 +8,7 @@ pub mod KeyLaws
 pub mod Under
 pub mod Firsts
 pub mod WordLaws
-pub mod Rows
+pub mod Stores
 pub mod Bodies
 pub mod Chart
 pub mod Numbers

@@ -19,8 +19,8 @@ use Rattle.chart.specs.Numbered.{Coded, Numbered}
 use Rattle.chart.proofs.Relations.{acts-member}
 use Rattle.expression.specs.Table.{node, count}
 use Rattle.expression.specs.Body.{fourOf, flat, chartOf, headOf, bodyOf}
-use Rattle.expression.specs.Listing.{bitsOf, rowOf, rows, listing, bitsFrom, KeysFit}
-use Rattle.expression.proofs.Rows.{append-ascends, bits→, bits←, bits-ascend, listing-many}
+use Rattle.expression.specs.Listing.{bitsOf, transitionOf, wordTransitions, listing, bitsFrom, KeysFit}
+use Rattle.expression.proofs.Stores.{append-ascends, bits→, bits←, bits-ascend, listing-many}
 use Rattle.expression.proofs.Chart.{body-transitions}
 
 -- THE ORDER
@@ -34,9 +34,9 @@ map-ascends less more f (x ∷ y ∷ l) a h = (
 )
 
 -- the order of keys is that of pairs
-rows-precede : (keys : List ℕ) (k i j : ℕ) → getD keys i 0 < getD keys j 0 → precedes (rowOf keys k i) (rowOf keys k j) ≡ true
-unfolding rowOf precedes
-rows-precede keys k i j h = rw (le-ltb (suc k) (suc k) (omega arith), eq-eqb (suc k) (suc k) refl) (go (ltb (getD keys i 0 / 256) (getD keys j 0 / 256)) refl)
+keys-precede : (keys : List ℕ) (k i j : ℕ) → getD keys i 0 < getD keys j 0 → precedes (transitionOf keys k i) (transitionOf keys k j) ≡ true
+unfolding transitionOf precedes
+keys-precede keys k i j h = rw (le-ltb (suc k) (suc k) (omega arith), eq-eqb (suc k) (suc k) refl) (go (ltb (getD keys i 0 / 256) (getD keys j 0 / 256)) refl)
   where
     go : (b : Bool) → ltb (getD keys i 0 / 256) (getD keys j 0 / 256) ≡ b
         → b || (eqb (getD keys i 0 / 256) (getD keys j 0 / 256) && ltb (getD keys i 0 % 256) (getD keys j 0 % 256)) ≡ true
@@ -55,51 +55,51 @@ module _ (keys words : List ℕ) where
   record Listed (x : Transition) (p : ℕ) : Type 0 where
     rank : ℕ
     on : On (getD words (suc p) 0) rank
-    is : rowOf keys p rank ≡ x
+    is : transitionOf keys p rank ≡ x
 
-  row→ : (k : ℕ) (x : Transition) → List·Memᴰ x (rows keys k (getD words (suc k) 0)) → Listed x k
-  unfolding rows
-  row→ k x mem =
-      let (i, m, e) = Memᴰ·of-map (rowOf keys k) (bitsOf (getD words (suc k) 0) 64) mem in
+  word→ : (k : ℕ) (x : Transition) → List·Memᴰ x (wordTransitions keys k (getD words (suc k) 0)) → Listed x k
+  unfolding wordTransitions
+  word→ k x mem =
+      let (i, m, e) = Memᴰ·of-map (transitionOf keys k) (bitsOf (getD words (suc k) 0) 64) mem in
       record { rank = i; on = bits→ (getD words (suc k) 0) 64 i m .1; is = e }
 
-  row← : (k i : ℕ) → i < 64 → On (getD words (suc k) 0) i → List·Memᴰ (rowOf keys k i) (rows keys k (getD words (suc k) 0))
-  unfolding rows
-  row← k i h on = Memᴰ·map (rowOf keys k) (bits← (getD words (suc k) 0) 64 i h on)
+  word← : (k i : ℕ) → i < 64 → On (getD words (suc k) 0) i → List·Memᴰ (transitionOf keys k i) (wordTransitions keys k (getD words (suc k) 0))
+  unfolding wordTransitions
+  word← k i h on = Memᴰ·map (transitionOf keys k) (bits← (getD words (suc k) 0) 64 i h on)
 
   listing→ : (k n : ℕ) (x : Transition) → List·Memᴰ x (listing keys words k n) → (p : ℕ) × (k ≤ p) × (p < k + n) × Listed x p
   unfolding listing
   listing→ k zero x mem = absurd (List·Memᴰ·not-nil mem)
   listing→ k (suc n) x mem =
       ⊎-elim
-      (λ i. (k, omega arith, omega arith, row→ k x i))
+      (λ i. (k, omega arith, omega arith, word→ k x i))
       (λ i. let (p, l, h, r) = listing→ (suc k) n x i in (p, omega (arith, l), omega (arith, h), r))
-      (List·Memᴰ·append-cases (rows keys k (getD words (suc k) 0)) mem)
+      (List·Memᴰ·append-cases (wordTransitions keys k (getD words (suc k) 0)) mem)
 
-  listing← : (k n p i : ℕ) → k ≤ p → p < k + n → i < 64 → On (getD words (suc p) 0) i → List·Memᴰ (rowOf keys p i) (listing keys words k n)
+  listing← : (k n p i : ℕ) → k ≤ p → p < k + n → i < 64 → On (getD words (suc p) 0) i → List·Memᴰ (transitionOf keys p i) (listing keys words k n)
   unfolding listing
   listing← k zero p i l h q on = absurd (omega arith)
   listing← k (suc n) p i l h q on =
       ⊎-elim
-      (λ (e : k ≡ p). rw e (Memᴰ·append-left (listing keys words (suc p) n) (row← p i q on)))
-      (λ (d : k < p). Memᴰ·append-right (rows keys k (getD words (suc k) 0)) (listing← (suc k) n p i d (omega arith) q on))
+      (λ (e : k ≡ p). rw e (Memᴰ·append-left (listing keys words (suc p) n) (word← p i q on)))
+      (λ (d : k < p). Memᴰ·append-right (wordTransitions keys k (getD words (suc k) 0)) (listing← (suc k) n p i d (omega arith) q on))
       (eq-or-lt-of-le l)
 
   module _ (m : ℕ) (C : Coded keys words m) where
-    rows-ascend : (k : ℕ) → Ascending precedes (rows keys k (getD words (suc k) 0))
-    unfolding rows
-    rows-ascend k =
+    word-ascends : (k : ℕ) → Ascending precedes (wordTransitions keys k (getD words (suc k) 0))
+    unfolding wordTransitions
+    word-ascends k =
         let x = getD words (suc k) 0 in
-        map-ascends ltb precedes (rowOf keys k) (bitsOf x 64) (bits-ascend x 64)
-        (λ i j p q h. rows-precede keys k i j (C .rising i j (ltb-true i j h) (C .known (suc k) j (bits→ x 64 j q .1))))
+        map-ascends ltb precedes (transitionOf keys k) (bitsOf x 64) (bits-ascend x 64)
+        (λ i j p q h. keys-precede keys k i j (C .rising i j (ltb-true i j h) (C .known (suc k) j (bits→ x 64 j q .1))))
 
     listing-ascends : (k n : ℕ) → Ascending precedes (listing keys words k n)
-    unfolding listing rowOf
+    unfolding listing transitionOf
     listing-ascends k zero = tt
     listing-ascends k (suc n) =
-        append-ascends precedes (rows keys k (getD words (suc k) 0)) (listing keys words (suc k) n) (rows-ascend k) (listing-ascends (suc k) n)
+        append-ascends precedes (wordTransitions keys k (getD words (suc k) 0)) (listing keys words (suc k) n) (word-ascends k) (listing-ascends (suc k) n)
         (λ x y p q.
-        let a = ap (λ (z : Transition). z .0) (row→ k x p .is) in
+        let a = ap (λ (z : Transition). z .0) (word→ k x p .is) in
         let (r, l, h, e) = listing→ (suc k) n y q in
         let b = ap (λ (z : Transition). z .0) (e .is) in
         lower-from x y (omega (arith, a, b, l)))
@@ -110,15 +110,15 @@ module _ (keys words : List ℕ) where
 -- THE THEOREM
 module _ (s keys words : List ℕ) (m n : ℕ) (all : n ≡ count s) (N : Numbered (bodyOf s) keys words m) where
   listed : (p : ℕ) (x : Transition) → Listed keys words x p → List·Memᴰ x (chartOf s)
-  unfolding rowOf
+  unfolding transitionOf
   listed p x r =
-      let y : Transition = rowOf keys p (r .rank) in
+      let y : Transition = transitionOf keys p (r .rank) in
       let a = N .exactly (y .0) (y .1) (y .2) .1 (r .rank, N .coded .known (suc p) (r .rank) (r .on), refl, refl, r .on) in
       subst (λ (z : Transition). List·Memᴰ z (chartOf s)) (r .is) (rw (body-transitions s) at (acts-member (bodyOf s) (y .0) (y .1) (y .2) .0 a))
 
-  row-is : (k i : ℕ) (x : Transition) → x .0 ≡ suc k → getD keys i 0 / 256 ≡ x .1 → getD keys i 0 % 256 ≡ x .2 → rowOf keys k i ≡ x
-  unfolding rowOf
-  row-is k i x e ea et = λ j. (sym e j, ea j, et j)
+  transition-is : (k i : ℕ) (x : Transition) → x .0 ≡ suc k → getD keys i 0 / 256 ≡ x .1 → getD keys i 0 % 256 ≡ x .2 → transitionOf keys k i ≡ x
+  unfolding transitionOf
+  transition-is k i x e ea et = λ j. (sym e j, ea j, et j)
 
   listing-is-chart : listing keys words 0 n ≡ chartOf s
   unfolding chartOf
@@ -127,7 +127,7 @@ module _ (s keys words : List ℕ) (m n : ℕ) (all : n ≡ count s) (N : Number
       (λ x mem. let (p, l, h, r) = listing→ keys words 0 n x mem in listed p x r)
       (λ x mem. let (k, h, e, z) = transitions→ (node s) (count s) x mem in
       let (i, q, ea, et, on) = N .exactly (x .0) (x .1) (x .2) .0 (acts-member (bodyOf s) (x .0) (x .1) (x .2) .1 (rw (body-transitions s) mem)) in
-      subst (λ (y : Transition). List·Memᴰ y (listing keys words 0 n)) (row-is k i x e ea et)
+      subst (λ (y : Transition). List·Memᴰ y (listing keys words 0 n)) (transition-is k i x e ea et)
       (listing← keys words 0 n k i (omega arith) (omega (arith, all, h)) (omega (arith, q, N .coded .few)) (subst (λ (u : ℕ). On (getD words u 0) i) e on)))
 
   pub chart-many : (t : ℕ) → t ≡ bitsFrom words 0 n → t ≡ length (chartOf s)

@@ -16,17 +16,17 @@ bitsOf x zero = []
 bitsOf x (suc k) = bitsOf x k ++ cond (eqb (x / 2 ^ k % 2) 1) (k ∷ []) []
 
 -- the transition from the vertex of node k that has rank i: its key is taken apart
-unfoldable pub rowOf : List ℕ → ℕ → ℕ → Transition
-rowOf keys k i = (suc k, getD keys i 0 / 256, getD keys i 0 % 256)
+unfoldable pub transitionOf : List ℕ → ℕ → ℕ → Transition
+transitionOf keys k i = (suc k, getD keys i 0 / 256, getD keys i 0 % 256)
 
 -- the transitions from the vertex of node k, which has the word x
-unfoldable pub rows : List ℕ → ℕ → ℕ → List Transition
-rows keys k x = map (rowOf keys k) (bitsOf x 64)
+unfoldable pub wordTransitions : List ℕ → ℕ → ℕ → List Transition
+wordTransitions keys k x = map (transitionOf keys k) (bitsOf x 64)
 
 -- the transitions from the vertices of the n nodes from k on
 unfoldable pub listing : List ℕ → List ℕ → ℕ → ℕ → List Transition
 listing keys words k zero = []
-listing keys words k (suc n) = rows keys k (getD words (suc k) 0) ++ listing keys words (suc k) n
+listing keys words k (suc n) = wordTransitions keys k (getD words (suc k) 0) ++ listing keys words (suc k) n
 
 -- their number
 unfoldable pub bitsFrom : List ℕ → ℕ → ℕ → ℕ

@@ -5,7 +5,7 @@ ghost use Prim.Native.Nat.{ℕ, _+_, _<_, _≤_};
 ghost use lib.ListN.{length, getD};
 ghost use lib.Seq.{sets};
 ghost use Rattle.expression.specs.Body.{fourOf, flat, headOf};
-ghost use Rattle.expression.specs.Listing.{rowOf, rows, listing, KeysFit, Stored};
+ghost use Rattle.expression.specs.Listing.{transitionOf, wordTransitions, listing, KeysFit, Stored};
 
 // Four bytes from index at on: the head, or a transition.
 fn write_four(out: &mut [u8], at: usize, a: u8, b: u8, c: u8, d: u8)
@@ -19,10 +19,10 @@ fn write_four(out: &mut [u8], at: usize, a: u8, b: u8, c: u8, d: u8)
 }
 
 // The transition of rank i from the vertex of node k; the next index.
-fn write_row(out: &mut [u8], at: usize, keys: &[usize; 128], k: usize, i: usize) -> usize
+fn write_transition(out: &mut [u8], at: usize, keys: &[usize; 128], k: usize, i: usize) -> usize
     requires { ⌜ (k < 128) × (i < 128) × (getD (now keys) i 0 < 65536) × (at + 4 ≤ length (now out)) ⌝ }
     ensures { λ r. ⌜ Stored (now (out .entry)) at
-        (flat (rowOf (now (keys .entry)) k i ∷ []))
+        (flat (transitionOf (now (keys .entry)) k i ∷ []))
         (now (out .exit)) r ⌝ }
 {
     let key = keys[i];
@@ -39,12 +39,12 @@ fn write_row(out: &mut [u8], at: usize, keys: &[usize; 128], k: usize, i: usize)
 
 // The transitions from the vertex of node k, one for each bit of its word, the lowest first: keys rise, so that they
 // ascend. The next index.
-fn write_rows(out: &mut [u8], at: usize, keys: &[usize; 128], k: usize, word: u64) -> usize
+fn write_leaving(out: &mut [u8], at: usize, keys: &[usize; 128], k: usize, word: u64) -> usize
     requires { ⌜ (k < 128)
         × KeysFit (now keys) word
-        × (at + length (flat (rows (now keys) k word)) ≤ length (now out)) ⌝ }
+        × (at + length (flat (wordTransitions (now keys) k word)) ≤ length (now out)) ⌝ }
     ensures { λ r. ⌜ Stored (now (out .entry)) at
-        (flat (rows (now (keys .entry)) k word))
+        (flat (wordTransitions (now (keys .entry)) k word))
         (now (out .exit)) r ⌝ }
 {
     let mut p = at;
@@ -52,7 +52,7 @@ fn write_rows(out: &mut [u8], at: usize, keys: &[usize; 128], k: usize, word: u6
     while left != 0 {
         let i = bits::lowest_bit(left);
         left = bits::without_lowest(left);
-        p = write_row(out, p, keys, k, i);
+        p = write_transition(out, p, keys, k, i);
     }
     p
 }
@@ -68,7 +68,7 @@ fn write_transitions<'a>(out: &mut [u8], n: usize, keys: &'a [usize; 128], words
     let mut at: usize = 4;
     let mut k: usize = 0;
     while k < n {
-        at = write_rows(out, at, keys, k, words[k + 1]);
+        at = write_leaving(out, at, keys, k, words[k + 1]);
         k += 1;
     }
 }

@@ -1,5 +1,5 @@
 -- `expression::body::write_body` meets its contract. The head, then the transitions.
-use Rattle.expression.proofs.Rows.{body-stored}
+use Rattle.expression.proofs.Stores.{body-stored}
 use borrow.Author.Needs.{needs}
 use Rattle.expression.proofs.body.write_body.Statement.{statement}
 use Rattle.expression.proofs.body.write_body.Tie as tie

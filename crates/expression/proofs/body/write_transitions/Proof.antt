@@ -4,7 +4,7 @@ use native.Mathlib.Omega.{arith}
 use lib.ListN.{getD}
 use Rattle.expression.specs.Listing.{listing, KeysFit}
 use Rattle.expression.specs.Body.{flat}
-use Rattle.expression.proofs.Rows.{Writing, writing-start, writing-room, writing-on, writing-end, writing-long, listing-all, listing-next, listing-end}
+use Rattle.expression.proofs.Stores.{Writing, writing-start, writing-room, writing-on, writing-end, writing-long, listing-all, listing-next, listing-end}
 use Rattle.expression.proofs.body.write_transitions.Statement.{statement}
 use Rattle.expression.proofs.body.write_transitions.Tie as tie
 
@@ -18,17 +18,17 @@ abbrev μ-loop : tie.MeasureT-loop
 loop-holds : tie.Need-loop-holds Inv-loop μ-loop
 loop-holds c = let p = c .before .pre in (p .0, p .1, omega arith, writing-start _ _ _ _ (listing-all _ _ _) (p .2))
 
-add-write-rows : tie.Need-add-write-rows Inv-loop μ-loop
-add-write-rows c = let n = c .before .before .loop .inv .0 in record { fits = omega arith }
+add-write-leaving : tie.Need-add-write-leaving Inv-loop μ-loop
+add-write-leaving c = let n = c .before .before .loop .inv .0 in record { fits = omega arith }
 
-mul-write-rows : tie.Need-mul-write-rows Inv-loop μ-loop
-mul-write-rows c = let n = c .before .before .loop .inv .0 in record { fits = omega arith }
+mul-write-leaving : tie.Need-mul-write-leaving Inv-loop μ-loop
+mul-write-leaving c = let n = c .before .before .loop .inv .0 in record { fits = omega arith }
 
-element-copy-out-write-rows : tie.Need-element-copy-out-write-rows Inv-loop μ-loop
-element-copy-out-write-rows c = let n = c .before .before .loop .inv .0 in omega arith
+element-copy-out-write-leaving : tie.Need-element-copy-out-write-leaving Inv-loop μ-loop
+element-copy-out-write-leaving c = let n = c .before .before .loop .inv .0 in omega arith
 
-write-rows-requires : tie.Need-write-rows-requires Inv-loop μ-loop
-write-rows-requires c κs =
+write-leaving-requires : tie.Need-write-leaving-requires Inv-loop μ-loop
+write-leaving-requires c κs =
     let i = c .before .before .before .loop .inv in
     let h = c .before .before .loop-test .taken in
     (omega arith, i .1 _, writing-room _ _ _ _ _ _ (i .3) _ _ (listing-next _ _ _ _ h))
@@ -43,7 +43,7 @@ loop-again : tie.Need-loop-again Inv-loop μ-loop
 loop-again c =
     let i = c .before .before .before .before .before .before .loop .inv in
     let h = c .before .before .before .before .before .loop-test .taken in
-    (i .0, i .1, omega arith, writing-on _ _ _ _ _ _ (i .3) _ _ (listing-next _ _ _ _ h) _ _ (c .before .before .write-rows .ensures))
+    (i .0, i .1, omega arith, writing-on _ _ _ _ _ _ (i .3) _ _ (listing-next _ _ _ _ h) _ _ (c .before .before .write-leaving .ensures))
 
 same-length : tie.Need-same-length Inv-loop μ-loop
 same-length c = writing-long _ _ _ _ _ _ (c .before .loop .inv .3)
@@ -58,10 +58,10 @@ write-transitions-spec =
     Inv-loop
     μ-loop
     loop-holds
-    add-write-rows
-    mul-write-rows
-    element-copy-out-write-rows
-    write-rows-requires
+    add-write-leaving
+    mul-write-leaving
+    element-copy-out-write-leaving
+    write-leaving-requires
     add-k
     loop-less
     loop-again

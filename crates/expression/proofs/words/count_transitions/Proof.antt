@@ -4,7 +4,7 @@ use mathlib.Core.Path.{_≡_, sym, _∙_}
 use native.Mathlib.Nat.{sub-zero, zero-add}
 use native.Mathlib.Omega.{arith}
 use Rattle.expression.specs.Listing.{bitsFrom}
-use Rattle.expression.proofs.Rows.{count-next, count-end}
+use Rattle.expression.proofs.Stores.{count-next, count-end}
 use Rattle.expression.proofs.words.count_transitions.Statement.{statement}
 use Rattle.expression.proofs.words.count_transitions.Tie as tie
 

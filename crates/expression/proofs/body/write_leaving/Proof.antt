@@ -1,15 +1,15 @@
--- `expression::body::write_rows` meets its contract. The invariant: with the bytes of the bits that are left stored, the lent bytes are as they are to become.
+-- `expression::body::write_leaving` meets its contract. The invariant: with the bytes of the bits that are left stored, the lent bytes are as they are to become.
 use Prim.Native.Nat.{_<_}
 use mathlib.Core.Path.{refl}
 use native.Mathlib.Omega.{arith}
-use Rattle.expression.specs.Listing.{rows, KeysFit}
+use Rattle.expression.specs.Listing.{wordTransitions, KeysFit}
 use Rattle.expression.specs.Body.{flat}
-use Rattle.expression.proofs.Rows.{Writing, writing-start, writing-room, writing-on, writing-end, writing-long, fits-rest, rows-next, rows-end, row-long}
-use Rattle.expression.proofs.body.write_rows.Statement.{statement}
-use Rattle.expression.proofs.body.write_rows.Tie as tie
+use Rattle.expression.proofs.Stores.{Writing, writing-start, writing-room, writing-on, writing-end, writing-long, fits-rest, word-next, word-end, transition-long}
+use Rattle.expression.proofs.body.write_leaving.Statement.{statement}
+use Rattle.expression.proofs.body.write_leaving.Tie as tie
 
 abbrev Inv-loop : tie.InvT-loop
-Inv-loop out₀ at keys k word p₀ left₀ out p left = (k < 128) × KeysFit keys left × Writing out p (flat (rows keys k left)) out₀ at (flat (rows keys k word))
+Inv-loop out₀ at keys k word p₀ left₀ out p left = (k < 128) × KeysFit keys left × Writing out p (flat (wordTransitions keys k left)) out₀ at (flat (wordTransitions keys k word))
 
 abbrev μ-loop : tie.MeasureT-loop
 μ-loop out₀ at keys k word p₀ left₀ out p left = left
@@ -23,14 +23,14 @@ lowest-bit-requires c κs = c .loop-test .taken
 without-lowest-requires : tie.Need-without-lowest-requires Inv-loop μ-loop
 without-lowest-requires c κs = c .before .loop-test .taken
 
-write-row-requires : tie.Need-write-row-requires Inv-loop μ-loop
-write-row-requires c κs =
+write-transition-requires : tie.Need-write-transition-requires Inv-loop μ-loop
+write-transition-requires c κs =
     let lowest = c .before .before in
     let i = lowest .before .before .loop .inv in
     let L = lowest .lowest-bit .ensures in
     let s = lowest .before .before .before .before in
-    let room = writing-room _ _ _ _ _ _ (i .2) _ _ (rows-next _ _ _ _ _ L (c .before .without-lowest .ensures _ L)) in
-    (i .0, omega (arith, L .within), i .1 .each _ (L .on), omega (arith, room, row-long (s .args .keys .now) (s .args .k) (lowest .lowest-bit .result)))
+    let room = writing-room _ _ _ _ _ _ (i .2) _ _ (word-next _ _ _ _ _ L (c .before .without-lowest .ensures _ L)) in
+    (i .0, omega (arith, L .within), i .1 .each _ (L .on), omega (arith, room, transition-long (s .args .keys .now) (s .args .k) (lowest .lowest-bit .result)))
 
 loop-less : tie.Need-loop-less Inv-loop μ-loop
 loop-less c = let L = c .before .before .before .before .before .lowest-bit .ensures in c .before .before .before .before .without-lowest .ensures _ L .less (L .on)
@@ -41,16 +41,16 @@ loop-again c =
     let i = lowest .before .before .loop .inv in
     let L = lowest .lowest-bit .ensures in
     let W = c .before .before .before .before .without-lowest .ensures _ L in
-    (i .0, fits-rest _ _ _ _ (i .1) W, writing-on _ _ _ _ _ _ (i .2) _ _ (rows-next _ _ _ _ _ L W) _ _ (c .before .before .write-row .ensures))
+    (i .0, fits-rest _ _ _ _ (i .1) W, writing-on _ _ _ _ _ _ (i .2) _ _ (word-next _ _ _ _ _ L W) _ _ (c .before .before .write-transition .ensures))
 
 same-length : tie.Need-same-length Inv-loop μ-loop
 same-length c = writing-long _ _ _ _ _ _ (c .before .loop .inv .2)
 
 returns : tie.Need-returns Inv-loop μ-loop
-returns c = let i = c .before .loop .inv in writing-end _ _ _ _ _ _ (i .2) (rows-end _ _ _ (c .loop-test .left))
+returns c = let i = c .before .loop .inv in writing-end _ _ _ _ _ _ (i .2) (word-end _ _ _ (c .loop-test .left))
 
-pub write-rows-spec : {M : Type 1} → statement M
-write-rows-spec =
+pub write-leaving-spec : {M : Type 1} → statement M
+write-leaving-spec =
     tie.close
     (tie.spec
     Inv-loop
@@ -58,7 +58,7 @@ write-rows-spec =
     loop-holds
     lowest-bit-requires
     without-lowest-requires
-    write-row-requires
+    write-transition-requires
     loop-less
     loop-again
     same-length

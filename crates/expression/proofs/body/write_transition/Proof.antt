@@ -1,8 +1,8 @@
--- `expression::body::write_row` meets its contract. A key is taken apart into two of the four bytes.
+-- `expression::body::write_transition` meets its contract. A key is taken apart into two of the four bytes.
 use borrow.Author.Needs.{needs}
-use Rattle.expression.proofs.Rows.{row-stored}
-use Rattle.expression.proofs.body.write_row.Statement.{statement}
-use Rattle.expression.proofs.body.write_row.Tie as tie
+use Rattle.expression.proofs.Stores.{transition-stored}
+use Rattle.expression.proofs.body.write_transition.Statement.{statement}
+use Rattle.expression.proofs.body.write_transition.Tie as tie
 
 mul-key : tie.Need-mul-key
 mul-key c = search needs
@@ -32,10 +32,10 @@ same-length : tie.Need-same-length
 same-length c = search needs
 
 returns : tie.Need-returns
-returns c = row-stored _ _ _ _ _ _ (c .before .before .write-four .ensures)
+returns c = transition-stored _ _ _ _ _ _ (c .before .before .write-four .ensures)
 
-pub write-row-spec : {M : Type 1} → statement M
-write-row-spec =
+pub write-transition-spec : {M : Type 1} → statement M
+write-transition-spec =
     tie.close
     (tie.spec
     mul-key

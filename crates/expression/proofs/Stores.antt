@@ -18,7 +18,7 @@ use Rattle.theory.specs.Ascending.{Below, Ascending}
 use Rattle.theory.specs.Transitions.{Transition}
 use Rattle.theory.proofs.Ascending.{one-list, ltb-order}
 use Rattle.expression.specs.Body.{fourOf, flat, headOf}
-use Rattle.expression.specs.Listing.{bitsOf, rowOf, rows, listing, bitsFrom, KeysFit, Stored}
+use Rattle.expression.specs.Listing.{bitsOf, transitionOf, wordTransitions, listing, bitsFrom, KeysFit, Stored}
 use Rattle.expression.proofs.WordLaws.{off}
 
 -- LISTS IN ORDER
@@ -179,22 +179,22 @@ module _ (keys : List ℕ) where
   fits-rest x i y f W = record { each = λ j on. f .each j (W .exactly j .0 on .0) }
 
   module _ (k : ℕ) where
-    pub rows-next : (x i y : ℕ) → LowestOn x i → Without x i y → Split (flat (rows keys k x)) (flat (rowOf keys k i ∷ [])) (flat (rows keys k y))
-    unfolding rows
-    rows-next x i y L W = record { is = rw (bits-next x i y L W) (flat-append (rowOf keys k i ∷ []) (map (rowOf keys k) (bitsOf y 64))) }
+    pub word-next : (x i y : ℕ) → LowestOn x i → Without x i y → Split (flat (wordTransitions keys k x)) (flat (transitionOf keys k i ∷ [])) (flat (wordTransitions keys k y))
+    unfolding wordTransitions
+    word-next x i y L W = record { is = rw (bits-next x i y L W) (flat-append (transitionOf keys k i ∷ []) (map (transitionOf keys k) (bitsOf y 64))) }
 
-    pub rows-end : (x : ℕ) → x ≡ 0 → flat (rows keys k x) ≡ []
-    unfolding rows flat
-    rows-end x e = rw (bits-none x e)
+    pub word-end : (x : ℕ) → x ≡ 0 → flat (wordTransitions keys k x) ≡ []
+    unfolding wordTransitions flat
+    word-end x e = rw (bits-none x e)
 
     -- the bytes of one transition
-    pub row-long : (i : ℕ) → length (flat (rowOf keys k i ∷ [])) ≡ 4
+    pub transition-long : (i : ℕ) → length (flat (transitionOf keys k i ∷ [])) ≡ 4
     unfolding flat fourOf
-    row-long i = refl
+    transition-long i = refl
 
-    pub row-stored : (a b : List ℕ) (at i : ℕ) → b ≡ sets a at (fourOf (k + 1) (getD keys i 0 / 256) (getD keys i 0 % 256) 0) → Stored a at (flat (rowOf keys k i ∷ [])) b (at + 4)
-    unfolding flat rowOf fourOf
-    row-stored a b at i e = record { is = rw (add-one k) at e; next = refl }
+    pub transition-stored : (a b : List ℕ) (at i : ℕ) → b ≡ sets a at (fourOf (k + 1) (getD keys i 0 / 256) (getD keys i 0 % 256) 0) → Stored a at (flat (transitionOf keys k i ∷ [])) b (at + 4)
+    unfolding flat transitionOf fourOf
+    transition-stored a b at i e = record { is = rw (add-one k) at e; next = refl }
 
 -- VERTICES
 module _ (words : List ℕ) where
@@ -207,11 +207,11 @@ module _ (words : List ℕ) where
   count-end k n t h = let d : n - k ≡ 0 = omega arith in rw d (omega arith)
 
   module _ (keys : List ℕ) where
-    pub listing-next : (k n : ℕ) → k < n → Split (flat (listing keys words k (n - k))) (flat (rows keys k (getD words (k + 1) 0))) (flat (listing keys words (k + 1) (n - (k + 1))))
+    pub listing-next : (k n : ℕ) → k < n → Split (flat (listing keys words k (n - k))) (flat (wordTransitions keys k (getD words (k + 1) 0))) (flat (listing keys words (k + 1) (n - (k + 1))))
     unfolding listing
     listing-next k n h =
         let d : n - k ≡ suc (n - (k + 1)) = omega arith in
-        record { is = rw (d, add-one k) (flat-append (rows keys k (getD words (suc k) 0)) (listing keys words (suc k) (n - suc k))) }
+        record { is = rw (d, add-one k) (flat-append (wordTransitions keys k (getD words (suc k) 0)) (listing keys words (suc k) (n - suc k))) }
 
     pub listing-all : (n : ℕ) → flat (listing keys words 0 (n - 0)) ≡ flat (listing keys words 0 n)
     listing-all n = rw (sub-zero n)
@@ -221,12 +221,12 @@ module _ (words : List ℕ) where
     listing-end k n h = let d : n - k ≡ 0 = omega arith in rw d
 
     pub listing-many : (k n : ℕ) → length (listing keys words k n) ≡ bitsFrom words k n
-    unfolding listing bitsFrom rows
+    unfolding listing bitsFrom wordTransitions
     listing-many k zero = refl
     listing-many k (suc n) =
         let w = getD words (suc k) 0 in
         let i = listing-many (suc k) n in
         let b = bits-many w 64 in
-        let l = length-append (map (rowOf keys k) (bitsOf w 64)) (listing keys words (suc k) n) in
-        let m = length-map (bitsOf w 64) (rowOf keys k) in
+        let l = length-append (map (transitionOf keys k) (bitsOf w 64)) (listing keys words (suc k) n) in
+        let m = length-map (bitsOf w 64) (transitionOf keys k) in
         omega arith
