@@ -17,8 +17,8 @@ use Rattle.chart.specs.Standing.{StandsAt, StandsFor, TakenOut}
 use Rattle.chart.proofs.Relations.{standing-step}
 
 -- is this pair (v, l)?
-either : (v l u m : ℕ) → ((u ≡ v) × (m ≡ l)) ⊎ Different v l u m
-either v l u m =
+same-or-different : (v l u m : ℕ) → ((u ≡ v) × (m ≡ l)) ⊎ Different v l u m
+same-or-different v l u m =
     by-cases (ℕ-discrete u v)
     (λ p. by-cases (ℕ-discrete m l) (λ q. inl (p, q)) (λ q. inr (λ e. q (e .1))))
     (λ p. inr (λ e. p (e .0)))
@@ -68,7 +68,7 @@ module _ {body labels : List ℕ} where
             },
             λ e. d (s .leaves ∙ e .0, s .holds .label ∙ e .1),
           ))
-          (either v l (fromOf body (s .at)) (getD labels (s .at) 0))),
+          (same-or-different v l (fromOf body (s .at)) (getD labels (s .at) 0))),
       (λ (s, d). record {
         at = s .at;
         within = s .within;
@@ -86,8 +86,8 @@ module _ {body labels : List ℕ} where
       marks = λ i g. ⊎-elim
           (λ e. omega (arith, t .gone i g (e .0) (e .1)))
           (λ d. omega (arith, t .kept i g d, h .marks i g))
-          (either v l (fromOf body i) (getD labels i 0));
-      stands = λ i g. ⊎-elim (out i g) (stay i g) (either v l (fromOf body i) (getD labels i 0));
+          (same-or-different v l (fromOf body i) (getD labels i 0));
+      stands = λ i g. ⊎-elim (out i g) (stay i g) (same-or-different v l (fromOf body i) (getD labels i 0));
     }
       where
         out : (i : ℕ) → i < countOf body → (fromOf body i ≡ v) × (getD labels i 0 ≡ l)
@@ -123,4 +123,4 @@ module _ {body labels : List ℕ} where
       ⊎-elim
       (λ e. g .gone i w (e .0) (e .1) ∙ sym (h .gone i w (e .0) (e .1)))
       (λ d. g .kept i w d ∙ sym (h .kept i w d))
-      (either v l (fromOf body i) (getD labels i 0)))
+      (same-or-different v l (fromOf body i) (getD labels i 0)))

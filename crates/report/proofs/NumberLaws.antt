@@ -91,8 +91,8 @@ numbered (PairChartStep p q r) = omega arith
 numbered (OutputLength p) = omega arith
 
 -- NO TWO REFUSALS HAVE THE SAME FOUR NUMBERS
-pub one-place : (x y : Place) → placeNumbers x ≡ placeNumbers y → x ≡ y
-one-place x y e = sym (place-at x) ∙ ap placeAt e ∙ place-at y
+pub one-refusal : (x y : Place) → placeNumbers x ≡ placeNumbers y → x ≡ y
+one-refusal x y e = sym (place-at x) ∙ ap placeAt e ∙ place-at y
 
 -- and no two verdicts
 pub one-verdict : (x y : Verdict) → verdictNumbers x ≡ verdictNumbers y → x ≡ y
@@ -103,11 +103,11 @@ one-verdict (verdict.Accepted v t l) (verdict.Accepted v′ t′ l′) e =
     cc
 one-verdict (verdict.Accepted v t l) (verdict.Refused y) e = absurd (omega (arith, numbered y, ap (λ (k : Numbers). k .n) e))
 one-verdict (verdict.Refused x) (verdict.Accepted v t l) e = absurd (omega (arith, numbered x, ap (λ (k : Numbers). k .n) e))
-one-verdict (verdict.Refused x) (verdict.Refused y) e = ap verdict.Refused (one-place x y e)
+one-verdict (verdict.Refused x) (verdict.Refused y) e = ap verdict.Refused (one-refusal x y e)
 
 -- and no two answers of writing the expression's chart
 pub one-written : (x y : Written) → writtenNumbers x ≡ writtenNumbers y → x ≡ y
 one-written (written.Length n) (written.Length m) e = ap written.Length (ap (λ (k : Numbers). k .p) e)
 one-written (written.Length n) (written.Refused y) e = absurd (omega (arith, numbered y, ap (λ (k : Numbers). k .n) e))
 one-written (written.Refused x) (written.Length m) e = absurd (omega (arith, numbered x, ap (λ (k : Numbers). k .n) e))
-one-written (written.Refused x) (written.Refused y) e = ap written.Refused (one-place x y e)
+one-written (written.Refused x) (written.Refused y) e = ap written.Refused (one-refusal x y e)
