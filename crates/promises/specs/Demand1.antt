@@ -19,8 +19,8 @@ use Rattle.expression.specs.Table as nodes
 use Rattle.expression.specs.Body.{bodyOf}
 use Rattle.witness.specs.LabellingAnswers as labelling
 use Rattle.bisimulation.specs.Relations.{indexedOf}
-use Rattle.bisimulation.specs.Answers.{Related, Stray, Fits}
-use Rattle.bisimulation.specs.RelationAnswers.{Comes, EndsAgree}
+use Rattle.bisimulation.specs.Answers.{Related, Stray, Fits, EndsAgree}
+use Rattle.bisimulation.specs.RelationAnswers.{Comes}
 use Rattle.bits.specs.Packed.{twoAt}
 use Rattle.verdict.specs.Files.{endAt, offsetOf, Whole, Before}
 use Rattle.verdict.specs.Verdicts.{nodesIn, chartIn, labelsIn, relationIn}
