@@ -3,6 +3,7 @@ use super::levels::next_level;
 use super::levels::sort_entries;
 use bits::Set;
 use bits::byte;
+use bits::is_set;
 use bits::lowest_bit;
 use bits::tables::row;
 use bits::with_bit;
@@ -47,17 +48,18 @@ fn below_level(set: Set, high: &[u64; 512], v: usize, level: usize) -> bool
     not_lower(set, high, v, level) == 128
 }
 
-// Whether x is v or leads to it.
+// Whether x is v or leads to it, by the one word of its set that has the bit of v.
 fn comes_back(after: &[u64; 256], v: usize, x: usize) -> bool
-    requires { ⌜ (length (now after) ≡ 256) × (x < 128) ⌝ }
+    requires { ⌜ (length (now after) ≡ 256) × (v < 128) × (x < 128) ⌝ }
     ensures { λ r. ⌜ (r ≡ true) ↔ Back (now (after .entry)) v x ⌝ }
 {
-    (x == v) | row(after, x).contains(v)
+    let word = after[2 * x + v / 64];
+    (x == v) | is_set(word, v % 64)
 }
 
 // The word, with bit k too where x is v or leads to it.
 fn with_back(word: u64, k: usize, after: &[u64; 256], v: usize, x: usize) -> u64
-    requires { ⌜ (k < 64) × (length (now after) ≡ 256) × (x < 128) ⌝ }
+    requires { ⌜ (k < 64) × (length (now after) ≡ 256) × (v < 128) × (x < 128) ⌝ }
     ensures { λ r. ⌜ WithIf (Back (now (after .entry)) v x) word k r ⌝ }
 {
     if comes_back(after, v, x) {
@@ -68,7 +70,7 @@ fn with_back(word: u64, k: usize, after: &[u64; 256], v: usize, x: usize) -> u64
 
 // Of the bits of a word, from vertex `from` on, those whose vertex is v or leads to it.
 fn returning_bits(after: &[u64; 256], v: usize, from: usize, word: u64) -> u64
-    requires { ⌜ (length (now after) ≡ 256) × (from ≤ 64) ⌝ }
+    requires { ⌜ (length (now after) ≡ 256) × (v < 128) × (from ≤ 64) ⌝ }
     ensures { λ r. ⌜ ((k : ℕ) → On r k ↔ (On word k × Back (now (after .entry)) v (from + k))) ⌝ }
 {
     let mut found: u64 = 0;
@@ -83,7 +85,7 @@ fn returning_bits(after: &[u64; 256], v: usize, from: usize, word: u64) -> u64
 
 // Those of a set that are v or lead to it.
 fn returning(after: &[u64; 256], v: usize, set: Set) -> Set
-    requires { ⌜ length (now after) ≡ 256 ⌝ }
+    requires { ⌜ (length (now after) ≡ 256) × (v < 128) ⌝ }
     ensures { λ r. ⌜ Members (Returning (now (after .entry)) v set) r ⌝ }
 {
     Set {
@@ -175,7 +177,7 @@ fn entries_check(
 
 // Whether all of a set returns to v.
 fn all_return(after: &[u64; 256], v: usize, set: Set) -> bool
-    requires { ⌜ length (now after) ≡ 256 ⌝ }
+    requires { ⌜ (length (now after) ≡ 256) × (v < 128) ⌝ }
     ensures { λ r. ⌜ (r ≡ true → AllBack (now (after .entry)) v set) ⌝ }
 {
     set.difference(returning(after, v, set)).is_empty()
