@@ -19,7 +19,7 @@ use Rattle.chart.specs.Leaving.{Begins}
 use Rattle.chart.proofs.Order.{at-mid, between}
 use Rattle.bisimulation.specs.declared.clearing.Matches.{Matches}
 use Rattle.bisimulation.specs.Relations.{indexedOf}
-use Rattle.bisimulation.specs.Answers.{Related, Fits, Passes}
+use Rattle.bisimulation.specs.Answers.{Related, RelationFits, Passes}
 use Rattle.bisimulation.specs.Suspects.{Acting, UsedBy, Used, Tabled, Match, MatchedIn, Able, Walked, Cleared, SameEnd, Refusable, Gathered}
 use Rattle.bisimulation.specs.Pairs.{Told, Sought}
 use Rattle.bisimulation.proofs.StepLaws.{step-of, at-step, match-low, is-matched}
@@ -182,7 +182,7 @@ module _ {into acting words users body e relation : List ℕ} {rows used : ℕ} 
           let (q, s) = is-matched B W T i k j a t h M in
           (i, g, p, sym q, s)
 
-  pub sought : {columns table : List ℕ} → verticesOf e ≡ rows → Table 128 (converse (Related relation)) columns → Gathered columns into acting users used body (verticesOf body) table → Fits e body relation → Sought into acting words table body e relation
+  pub sought : {columns table : List ℕ} → verticesOf e ≡ rows → Table 128 (converse (Related relation)) columns → Gathered columns into acting users used body (verticesOf body) table → RelationFits e body relation → Sought into acting words table body e relation
   sought q C G F = record {
     told = T;
     fits = F;

@@ -16,8 +16,9 @@ use Rattle.report.specs.declared.Stage.{Stage}
 use Rattle.report.specs.declared.Stage.the-variants.{Passed, Refused}
 use Rattle.chart.proofs.Checks.{well-formed}
 use Rattle.chart.specs.Bodies.{verticesOf, startOf}
-use Rattle.bisimulation.specs.Relations.{relatedTest, strayTest, answered, outcomeOf, relationOf, openingOf, andThen}
-use Rattle.bisimulation.specs.Answers.{Related, Stray, StrayAnswer, Fits, SomeChart, PairsAnswer}
+use Rattle.chart.specs.Leaving.{whenPassed}
+use Rattle.bisimulation.specs.Relations.{relatedTest, strayTest, answered, outcomeOf, relationOf, openingOf}
+use Rattle.bisimulation.specs.Answers.{Related, Stray, StrayAnswer, RelationFits, SomeChart, PairsAnswer}
 use Rattle.bisimulation.proofs.PairChecks.{passed-refused}
 use Rattle.bisimulation.proofs.Relations.{one-first, fits-of, strays-found}
 
@@ -64,7 +65,7 @@ module _ (vertices start : ℕ) (b relation : List ℕ) where
 
 -- 40 TO 45 ARE 40 TO 42, AND THEN 43 TO 45
 module _ (e b relation : List ℕ) where
-  pub relation-opening : relationOf e b relation ≡ andThen (openingOf (verticesOf e) (startOf e) b relation) (answered e b (outcomeOf e b relation))
+  pub relation-opening : relationOf e b relation ≡ whenPassed (openingOf (verticesOf e) (startOf e) b relation) (answered e b (outcomeOf e b relation)) (openingOf (verticesOf e) (startOf e) b relation)
   unfolding relationOf openingOf outcomeOf relationOutcome
   relation-opening = go (eqb (length relation) (16 * verticesOf e)) (ltb row (verticesOf e)) (relatedTest relation (startOf e) (startOf b)) refl
     where
@@ -77,21 +78,24 @@ module _ (e b relation : List ℕ) where
       apart : relatedTest relation (startOf e) (startOf b) ≡ false → answered e b (outcomeOf e b relation) ≡ Refused (PairStarts (startOf e) (startOf b))
       apart h = rw h refl
 
-      go : (x y z : Bool) → relatedTest relation (startOf e) (startOf b) ≡ z → cond x (cond y place (answered e b (outcomeOf e b relation))) (Refused (RelationLength (length relation))) ≡ andThen (cond x (cond y place (cond z Passed (Refused (PairStarts (startOf e) (startOf b))))) (Refused (RelationLength (length relation)))) (answered e b (outcomeOf e b relation))
+      opened : (x y z : Bool) → Stage
+      opened x y z = cond x (cond y place (cond z Passed (Refused (PairStarts (startOf e) (startOf b))))) (Refused (RelationLength (length relation)))
+
+      go : (x y z : Bool) → relatedTest relation (startOf e) (startOf b) ≡ z → cond x (cond y place (answered e b (outcomeOf e b relation))) (Refused (RelationLength (length relation))) ≡ whenPassed (opened x y z) (answered e b (outcomeOf e b relation)) (opened x y z)
       go false y z h = refl
       go true true z h = refl
       go true false true h = refl
       go true false false h = apart h
 
   -- where they pass, every bit is one of a vertex, and the starts are related
-  opening-fits : openingOf (verticesOf e) (startOf e) b relation ≡ Passed → Fits e b relation × Related relation (startOf e) (startOf b)
+  opening-fits : openingOf (verticesOf e) (startOf e) b relation ≡ Passed → RelationFits e b relation × Related relation (startOf e) (startOf b)
   unfolding openingOf
   opening-fits = go (eqb (length relation) (16 * verticesOf e)) (ltb row (verticesOf e)) (relatedTest relation (startOf e) (startOf b)) refl refl refl
     where
       row : ℕ
       row = firstRow (strayTest b relation) (verticesOf e) 128
 
-      go : (x y z : Bool) → eqb (length relation) (16 * verticesOf e) ≡ x → ltb row (verticesOf e) ≡ y → relatedTest relation (startOf e) (startOf b) ≡ z → cond x (cond y (Refused (PairNoVertex row (lowest (strayTest b relation row) 0 128))) (cond z Passed (Refused (PairStarts (startOf e) (startOf b))))) (Refused (RelationLength (length relation))) ≡ Passed → Fits e b relation × Related relation (startOf e) (startOf b)
+      go : (x y z : Bool) → eqb (length relation) (16 * verticesOf e) ≡ x → ltb row (verticesOf e) ≡ y → relatedTest relation (startOf e) (startOf b) ≡ z → cond x (cond y (Refused (PairNoVertex row (lowest (strayTest b relation row) 0 128))) (cond z Passed (Refused (PairStarts (startOf e) (startOf b))))) (Refused (RelationLength (length relation))) ≡ Passed → RelationFits e b relation × Related relation (startOf e) (startOf b)
       go false y z h i j q = absurd (passed-refused q refl)
       go true true z h i j q = absurd (passed-refused q refl)
       go true false true h i j q = let w = eqb-true (length relation) (16 * verticesOf e) h in (fits-of w (strays-found b relation (verticesOf e) w .1 (ltb-false row (verticesOf e) i)), j)
@@ -104,10 +108,10 @@ module _ (e b relation : List ℕ) where
 
     -- a refusal of 40 to 42 is that of 40 to 45
     pub opening-refused : {p : Place} → s ≡ Refused p → s ≡ relationOf e b relation
-    opening-refused q = q ∙ sym (relation-opening ∙ ap (λ (t : Stage). andThen t (answered e b (outcomeOf e b relation))) (is-opening ∙ q))
+    opening-refused q = q ∙ sym (relation-opening ∙ ap (λ (t : Stage). whenPassed t (answered e b (outcomeOf e b relation)) t) (is-opening ∙ q))
 
     -- where they pass, 43 to 45 are left
-    pub opening-passes : s ≡ Passed → Fits e b relation × Related relation (startOf e) (startOf b)
+    pub opening-passes : s ≡ Passed → RelationFits e b relation × Related relation (startOf e) (startOf b)
     opening-passes q = opening-fits (is-opening ∙ q)
 
 -- WHERE SOME CHART HAS THE NUMBERS

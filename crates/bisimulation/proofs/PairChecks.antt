@@ -19,7 +19,7 @@ use Rattle.report.specs.declared.Place.{Place}
 use Rattle.report.specs.declared.Place.the-variants.{PairNoVertex}
 use Rattle.report.specs.declared.Stage.{Stage}
 use Rattle.report.specs.declared.Stage.the-variants.{Passed, Refused}
-use Rattle.bisimulation.specs.Answers.{Related, Stray, EndsAgree, Passes, Fails, PairAnswer, RowAnswer, CheckedAnswer, StrayAnswer}
+use Rattle.bisimulation.specs.Answers.{Related, Stray, EndsAgree, Passes, FailsWith, PairAnswer, RowAnswer, CheckedAnswer, StrayAnswer}
 use Rattle.bisimulation.proofs.RowLaws.{has-related}
 
 -- 43: the test of the ends
@@ -66,7 +66,7 @@ module _ {expression body relation : List ℕ} {u : ℕ} where
   pub pair-passed : {v : ℕ} → (Related relation u v → Passes expression body relation u v) → PairAnswer expression body relation u v Passed
   pair-passed h = record { passed = λ q. h; refused = λ p q. absurd (passed-refused refl q) }
 
-  pub pair-refused : {v : ℕ} {p : Place} → Related relation u v → Fails expression body relation u v (Refused p) → PairAnswer expression body relation u v (Refused p)
+  pub pair-refused : {v : ℕ} {p : Place} → Related relation u v → FailsWith expression body relation u v (Refused p) → PairAnswer expression body relation u v (Refused p)
   pair-refused r f = record { passed = λ q. absurd (passed-refused q refl); refused = λ p q. (r, f) }
 
   -- a row stops at a pair that is refused

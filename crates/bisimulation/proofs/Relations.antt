@@ -23,7 +23,7 @@ use Rattle.chart.specs.Bodies.{verticesOf, startOf}
 use Rattle.chart.specs.Steps.{transitionsOf}
 use Rattle.chart.proofs.Relations.{acts-member}
 use Rattle.bisimulation.specs.Relations.{indexedOf, relatedTest, strayTest, answered, outcomeOf, relationOf}
-use Rattle.bisimulation.specs.Answers.{Related, Stray, Fits}
+use Rattle.bisimulation.specs.Answers.{Related, Stray, RelationFits}
 use Rattle.bisimulation.specs.RelationAnswers.{Comes, RelationAnswer, passed, other-length, no-vertex, starts-unrelated, other-end, expression-alone, chart-alone}
 use Rattle.bisimulation.proofs.RowLaws.{related-column, related-row}
 
@@ -31,7 +31,7 @@ use Rattle.bisimulation.proofs.RowLaws.{related-column, related-row}
 pub data Answers (e b relation : List ℕ) : Stage → Type 0 where
   fails-40 : length relation ≢ 16 * verticesOf e → Answers e b relation (Refused (RelationLength (length relation)))
   fails-41 : {u v : ℕ} → length relation ≡ 16 * verticesOf e → FirstPair (Stray b relation) u v → Answers e b relation (Refused (PairNoVertex u v))
-  fitting : {o : RelationOutcome} → Fits e b relation → RelationChecked (indexedOf e) (indexedOf b) (Related relation) o → Answers e b relation (answered e b o)
+  fitting : {o : RelationOutcome} → RelationFits e b relation → RelationChecked (indexedOf e) (indexedOf b) (Related relation) o → Answers e b relation (answered e b o)
 
 -- THERE IS ONLY ONE ANSWER
 pub one-first : {P : ℕ → ℕ → Type 0} {u v a c : ℕ} → FirstPair P u v → FirstPair P a c → (u ≡ a) × (v ≡ c)
@@ -43,7 +43,7 @@ one-first {P} {u} {v} {a} {c} f g = go (same-or-earlier u v a c)
     go (inr (inr h)) = absurd (f .earlier a c h (g .holds))
 
 module _ {e b relation : List ℕ} where
-  stray-fits : {u v : ℕ} → FirstPair (Stray b relation) u v → ¬ Fits e b relation
+  stray-fits : {u v : ℕ} → FirstPair (Stray b relation) u v → ¬ RelationFits e b relation
   stray-fits {u} {v} f F = let (l, r) = f .holds in omega (arith, F .inside u v r .1)
 
   pub one-answer : {s t : Stage} → Answers e b relation s → Answers e b relation t → s ≡ t
@@ -58,7 +58,7 @@ module _ {e b relation : List ℕ} where
   one-answer (fitting F c) (fitting G d) = ap (answered e b) (one-relation-outcome c d)
 
 -- where no bit is stray, each stands for a pair of vertices
-pub fits-of : {e b relation : List ℕ} → length relation ≡ 16 * verticesOf e → ((u v : ℕ) → ¬ Stray b relation u v) → Fits e b relation
+pub fits-of : {e b relation : List ℕ} → length relation ≡ 16 * verticesOf e → ((u v : ℕ) → ¬ Stray b relation u v) → RelationFits e b relation
 fits-of {e} {b} {relation} w h = record { whole = w; inside = λ u v r. (related-row relation (verticesOf e) u v w r, low u v r) }
   where
     low : (u v : ℕ) → Related relation u v → v < verticesOf b
@@ -81,7 +81,7 @@ pub strays-found : (b relation : List ℕ) (rows : ℕ) → length relation ≡ 
 strays-found b relation rows w = first-pair (decides-stray b relation) rows 128 (λ a c s. (related-row relation rows a c w (s .1), related-column relation a c (s .1)))
 
 module _ (e b relation : List ℕ) where
-  outcome-checked : Fits e b relation → RelationChecked (indexedOf e) (indexedOf b) (Related relation) (outcomeOf e b relation)
+  outcome-checked : RelationFits e b relation → RelationChecked (indexedOf e) (indexedOf b) (Related relation) (outcomeOf e b relation)
   unfolding outcomeOf
   outcome-checked F = relation-checked (indexedOf e) (indexedOf b) {t = relatedTest relation} {R = Related relation} (λ u v. ((λ r. r), (λ r. r))) (verticesOf e) (verticesOf b) (F .inside)
 
@@ -142,7 +142,7 @@ module _ (e b relation : List ℕ) where
   pair-answer c (fails-44 h l) = expression-alone c h l
   pair-answer c (fails-45 h a l) = chart-alone c h a l
 
-  outcome-answer : {o : RelationOutcome} → Fits e b relation → RelationChecked (indexedOf e) (indexedOf b) (Related relation) o
+  outcome-answer : {o : RelationOutcome} → RelationFits e b relation → RelationChecked (indexedOf e) (indexedOf b) (Related relation) o
       → RelationAnswer e b relation (answered e b o)
   outcome-answer F (all-pass s p) = passed F (indexed-chart e b (Related relation) .0 (related-iff-bisimulation .0 (all-pass s p)))
   outcome-answer F (fails-42 h) = starts-unrelated F h

@@ -25,7 +25,7 @@ abbrev pub Stray : List ℕ → List ℕ → ℕ → ℕ → Type 0
 Stray body relation u v = (verticesOf body ≤ v) × Related relation u v
 
 -- 40 and 41 pass
-pub record Fits (expression body relation : List ℕ) : Type 0 where
+pub record RelationFits (expression body relation : List ℕ) : Type 0 where
   pub whole : length relation ≡ 16 * verticesOf expression
   pub inside : (u v : ℕ) → Related relation u v → (u < verticesOf expression) × (v < verticesOf body)
 
@@ -45,21 +45,21 @@ module _ (expression body relation : List ℕ) where
   Passes u v = PairPasses (indexedOf expression) (indexedOf body) (Related relation) u v
 
   -- some outcome of a pair that fails stands for this answer
-  abbrev pub Fails : ℕ → ℕ → Stage → Type 0
-  Fails u v s = (o : RelationOutcome)
+  abbrev pub FailsWith : ℕ → ℕ → Stage → Type 0
+  FailsWith u v s = (o : RelationOutcome)
       × PairFails (indexedOf expression) (indexedOf body) (Related relation) u v o
       × (s ≡ answered expression body o)
 
   -- what 43 to 45 answer for one pair
   pub record PairAnswer (u v : ℕ) (s : Stage) : Type 0 where
     pub passed : s ≡ Passed → Related relation u v → Passes u v
-    pub refused : (p : Place) → s ≡ Refused p → Related relation u v × Fails u v s
+    pub refused : (p : Place) → s ≡ Refused p → Related relation u v × FailsWith u v s
 
   -- the first pair of row u that fails is that of column v
   pub record FirstFails (u v : ℕ) (s : Stage) : Type 0 where
     pub related : Related relation u v
     pub before : (w : ℕ) → w < v → Related relation u w → Passes u w
-    pub fails : Fails u v s
+    pub fails : FailsWith u v s
 
   -- what they answer for the pairs of row u, by column
   pub record RowAnswer (u : ℕ) (s : Stage) : Type 0 where
@@ -77,7 +77,7 @@ pub record NumberedChart (keys words : List ℕ) (m vertices : ℕ) (body relati
   pub passes : checkOf expression ≡ Passed
   pub size : verticesOf expression ≡ vertices
   pub numbered : Numbered expression keys words m
-  pub fits : Fits expression body relation
+  pub fits : RelationFits expression body relation
   pub starts : Related relation (startOf expression) (startOf body)
 
 -- there is such a chart

@@ -9,7 +9,7 @@ use Rattle.bits.specs.Tables.{HasRow, Table}
 use Rattle.chart.specs.Bodies.{verticesOf, startOf, WellFormed}
 use Rattle.chart.specs.Leaving.{Begins}
 use Rattle.chart.specs.Numbered.{Numbered}
-use Rattle.bisimulation.specs.Answers.{Related, Fits, Passes, PairAnswer, RowAnswer, CheckedAnswer}
+use Rattle.bisimulation.specs.Answers.{Related, RelationFits, Passes, PairAnswer, RowAnswer, CheckedAnswer}
 use Rattle.bisimulation.specs.Suspects.{KeyInto, Acting, Tabled, Match}
 
 -- what the code reads: the tables, and where the transitions of each vertex begin
@@ -38,7 +38,7 @@ pub record Told (into acting words e relation : List ℕ) : Type 0 where
 -- and the table's sets have only related pairs, and each that 43, 44 or 45 refuses
 pub record Sought (into acting words table body e relation : List ℕ) : Type 0 where
   pub told : Told into acting words e relation
-  pub fits : Fits e body relation
+  pub fits : RelationFits e body relation
   pub given : (u v : ℕ) → v < verticesOf body → HasRow table v u → Related relation u v
   pub others : (u v : ℕ) → Related relation u v → ¬ HasRow table v u → Passes e body relation u v
 

@@ -15,11 +15,11 @@ use Rattle.report.specs.declared.Stage.the-variants.{Passed, Refused}
 use Rattle.chart.specs.Bodies.{verticesOf, startOf}
 use Rattle.chart.specs.Steps.{transitionsOf}
 use Rattle.bisimulation.specs.Relations.{indexedOf}
-use Rattle.bisimulation.specs.Answers.{Related, Stray, Fits, EndsAgree, Passes}
+use Rattle.bisimulation.specs.Answers.{Related, Stray, RelationFits, EndsAgree, Passes}
 
 -- 40 to 42 pass, (p, q) is related, and every earlier related pair passes
 pub record Comes (expression body relation : List ℕ) (p q : ℕ) : Type 0 where
-  pub fits : Fits expression body relation
+  pub fits : RelationFits expression body relation
   pub starts : Related relation (startOf expression) (startOf body)
   pub related : Related relation p q
   pub earlier : (u v : ℕ) → Earlier u v p q → Related relation u v → Passes expression body relation u v
@@ -35,7 +35,7 @@ module _ (expression body relation : List ℕ) where
   -- each answer, with its place
   pub data RelationAnswer : Stage → Type 0 where
     -- every bit is one of a vertex, and the bits are a bisimulation of the two charts
-    passed : Fits expression body relation
+    passed : RelationFits expression body relation
         → Bisimulation (chart (startOf expression) (transitionsOf expression))
         (chart (startOf body) (transitionsOf body)) (Related relation)
         → RelationAnswer Passed
@@ -46,7 +46,7 @@ module _ (expression body relation : List ℕ) where
     no-vertex : {p q : ℕ} → length relation ≡ 16 * verticesOf expression → FirstPair (Stray body relation) p q
         → RelationAnswer (Refused (PairNoVertex p q))
     -- 42
-    starts-unrelated : Fits expression body relation → ¬ Related relation (startOf expression) (startOf body)
+    starts-unrelated : RelationFits expression body relation → ¬ Related relation (startOf expression) (startOf body)
         → RelationAnswer (Refused (PairStarts (startOf expression) (startOf body)))
     -- 43
     other-end : {p q : ℕ} → Comes expression body relation p q → ¬ EndsAgree p q

@@ -63,8 +63,3 @@ openingOf vertices start body relation =
     (Refused (PairNoVertex u (lowest (strayTest body relation u) 0 128)))
     (cond (relatedTest relation start (startOf body)) Passed (Refused (PairStarts start (startOf body)))))
     (Refused (RelationLength (length relation)))
-
--- a stage, and what comes after it
-abbrev pub andThen : Stage → Stage → Stage
-andThen Passed next = next
-andThen (Refused place) next = Refused place

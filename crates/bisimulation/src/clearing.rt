@@ -64,8 +64,8 @@ fn walk(
     while i < b {
         let next = matching(into, acting, body, i);
         if next != last {
-            matched = bit_or(matched, next);
             able = able.intersection(united(users, next));
+            matched = bit_or(matched, next);
             last = next;
         }
         i += 1;

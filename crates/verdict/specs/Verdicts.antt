@@ -15,7 +15,7 @@ use Rattle.expression.specs.Table as expression
 use Rattle.expression.specs.Body.{bodyOf}
 use Rattle.witness.specs.Labellings.{labelledOf}
 use Rattle.bisimulation.specs.Relations.{relationOf}
-use Rattle.bisimulation.specs.Answers.{Related, Fits}
+use Rattle.bisimulation.specs.Answers.{Related, RelationFits}
 use Rattle.verdict.specs.Files.{recordsOf, bodyAt}
 
 -- the bodies of the four records
@@ -63,7 +63,7 @@ BothPass nodes b = (expression.checkOf nodes ≡ stage.Passed) × (chart.checkOf
 pub record ComeToPairs (nodes : List ℕ) (vertices : ℕ) (b relation : List ℕ) : Type 0 where
   pub both : BothPass nodes b
   pub is-number : vertices ≡ verticesOf (bodyOf nodes)
-  pub fits : Fits (bodyOf nodes) b relation
+  pub fits : RelationFits (bodyOf nodes) b relation
   pub starts : Related relation (startOf (bodyOf nodes)) (startOf b)
 
 -- THE CHECK THAT FAILS, with its place: those before it pass

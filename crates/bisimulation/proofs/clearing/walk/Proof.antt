@@ -44,7 +44,7 @@ bit-or-requires : tie.Need-bit-or-requires Inv-loop μ-loop
 bit-or-requires c κs = search needs
 
 united-requires-2 : tie.Need-united-requires-2 Inv-loop μ-loop
-united-requires-2 c κs = omega (arith, c .before .before .before .before .before .loop .inv .1)
+united-requires-2 c κs = omega (arith, c .before .before .before .before .loop .inv .1)
 
 intersection-requires-2 : tie.Need-intersection-requires-2 Inv-loop μ-loop
 intersection-requires-2 c κs = search needs
@@ -64,7 +64,7 @@ loop-again c =
       i .2,
       omega arith,
       ⊎-elim
-          (λ (t, ei, g, un, ib, q₁, q₂, q₃). rw (q₁, q₂, q₃) (walk-more (i .4) (n .result) (n .ensures) (ei .result) (ei .ensures) (un .ensures) (ib .ensures)))
+          (λ (t, g, un, ib, ei, q₁, q₂, q₃). rw (q₁, q₂, q₃) (walk-more (i .4) (n .result) (n .ensures) (ei .result) (ei .ensures) (un .ensures) (ib .ensures)))
           (λ (t, q₁, q₂, q₃). rw (q₁, q₂, q₃) (walk-same (i .4) (n .result) (n .ensures) (t .left)))
           (c .if2 .came),
     )
@@ -85,9 +85,9 @@ walk-spec =
     add-i
     loop-holds
     matching-requires-2
-    bit-or-requires
     united-requires-2
     intersection-requires-2
+    bit-or-requires
     add-i-2
     loop-less
     loop-again
