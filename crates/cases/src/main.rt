@@ -143,11 +143,11 @@ fn run(table: &[u8], bytes: &mut [u8]) -> State {
     state
 }
 
-// Room for nine parts.
-fn space() -> [u8; 589824]
-    ensures { λ r. ⌜ 589824 ≡ length r ⌝ }
+// Room for ten parts.
+fn space() -> [u8; 655360]
+    ensures { λ r. ⌜ 655360 ≡ length r ⌝ }
 {
-    [0; 589824]
+    [0; 655360]
 }
 
 fn main() {
