@@ -41,78 +41,72 @@ pub(crate) const CHECK: usize = 14;
 
 pub(crate) const LEAVING: usize = 15;
 
-fn positive(n: usize) -> usize
-    ensures { λ r. ⌜ 0 < r ⌝ }
-{
-    if n == 0 { 1 } else { n }
-}
-
-// Writes more bytes, made of those before; answers how many there are.
-fn repeated(bytes: &mut [u8], start: usize, end: usize, line: &[u8]) -> usize
-    requires { ⌜ (start ≤ end) × (end ≤ 400000) ⌝ }
-{
-    let count = number(after(line, 1));
-    let back = number(after(line, 2));
-    let mut steps = [0u8; 16];
-    let turn = positive(write(&mut steps, 0, after(line, 3)));
-    repeat(bytes, end, count, least(back, end), &steps, turn);
-    end - start + count
-}
-
-// The offset that a line names, by rows or by bytes.
-fn offset(word: usize, n: usize) -> usize
-    requires { ⌜ n < 1000000 ⌝ }
+// The offset at which a line's bytes begin: a record's name replaces all that there is.
+fn offset(word: usize, size: usize, n: usize) -> usize
+    requires { ⌜ (size < 65536) × (n < 1000000) ⌝ }
     ensures { λ r. ⌜ r < 16000000 ⌝ }
 {
+    if word < FILE {
+        return 0;
+    }
+    if word == MORE {
+        return size;
+    }
     if word == ROW { 16 * n } else { n }
 }
 
+// What a line has before its bytes, in words.
+fn words_before(word: usize) -> usize {
+    if word <= MORE { 1 } else { 2 }
+}
+
+// The size of a part after bytes were written up to an end; a record's name without bytes changes nothing.
+fn resized(word: usize, size: usize, end: usize) -> usize {
+    if end < size {
+        if word < FILE {
+            if end > 0 {
+                return end;
+            }
+        }
+        return size;
+    }
+    end
+}
+
 // Changes a part's bytes; answers how many there are.
-fn changed(bytes: &mut [u8], k: usize, word: usize, line: &[u8]) -> usize
-    requires { ⌜ k ≤ 4 ⌝ }
+fn changed(bytes: &mut [u8], start: usize, size: usize, word: usize, line: &[u8]) -> usize
+    requires { ⌜ (start < 300000) × (size < 65536) ⌝ }
 {
-    let start = k * ROOM + 4;
-    let end = start + size(bytes, k);
-    if word == MORE {
-        return write(bytes, end, after(line, 1)) - start;
-    }
-    if word == REPEAT {
-        return repeated(bytes, start, end, line);
-    }
     let n = number(after(line, 1));
     if word == CUT {
-        return least(n, end - start);
+        return least(n, size);
     }
-    write(bytes, start + offset(word, n), after(line, 2));
-    end - start
+    if word == REPEAT {
+        let back = number(after(line, 2));
+        repeat(bytes, start + size, n, back, after(line, 3));
+        return size + n;
+    }
+    let text = after(line, words_before(word));
+    let end = write(bytes, start + offset(word, size, n), text);
+    resized(word, size, end - start)
 }
 
 fn change(bytes: &mut [u8], k: usize, word: usize, line: &[u8]) {
     if k <= FILE {
-        let size = changed(bytes, k, word, line);
-        set_size(bytes, k, size);
-    }
-}
-
-// Turns to a part; the file is made of the records, and a record is replaced where the line has bytes.
-fn choose(bytes: &mut [u8], k: usize, given: &[u8])
-    requires { ⌜ k ≤ 4 ⌝ }
-{
-    if k == FILE {
-        join(bytes, 0);
-        return;
-    }
-    if given.len() > 0 {
-        let start = k * ROOM + 4;
-        let end = write(bytes, start, given);
-        set_size(bytes, k, end - start);
+        let before = size(bytes, k);
+        let after = changed(bytes, k * ROOM + 4, before, word, line);
+        set_size(bytes, k, after);
     }
 }
 
 // A line that calls nothing; k is the part that the lines have turned to.
 pub(crate) fn prepare(bytes: &mut [u8], k: usize, word: usize, line: &[u8]) {
-    if word <= FILE {
-        choose(bytes, word, after(line, 1));
+    if word < FILE {
+        change(bytes, word, word, line);
+        return;
+    }
+    if word == FILE {
+        join(bytes, 0);
         return;
     }
     if word <= CUT {

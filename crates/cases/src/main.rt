@@ -24,6 +24,8 @@ use records::CHART;
 use records::FILE;
 use records::body;
 use records::join;
+use records::least;
+use report::Numbers;
 use std::num::wrapping_add_u64;
 use words::after;
 use words::find;
@@ -66,7 +68,7 @@ fn judge(name: &[u8], line: &[u8], answer: &[u8]) -> bool {
     let as_expected = same(answer, expected);
     say(name);
     say(b": ");
-    say(part(line, 0, equals + 1));
+    say(part(line, 0, least(equals + 1, line.len())));
     say(answer);
     if as_expected {
         say(b", as expected\n");
@@ -78,15 +80,16 @@ fn judge(name: &[u8], line: &[u8], answer: &[u8]) -> bool {
     as_expected
 }
 
+fn verdict_on(file: &[u8]) -> Numbers {
+    report::verdict_numbers(verdict::check(file))
+}
+
 // The answer to a call, as text.
 fn answer(bytes: &[u8], word: usize, line: &[u8], text: &mut [u8]) -> usize
     ensures { λ r. ⌜ Counts r (now (text .exit)) ⌝ }
 {
     if word == CHECK {
-        return write_verdict(
-            text,
-            report::verdict_numbers(verdict::check(body(bytes, FILE))),
-        );
+        return write_verdict(text, verdict_on(body(bytes, FILE)));
     }
     if word == LEAVING {
         let vertex = number(after(line, 1));
@@ -143,11 +146,11 @@ fn run(table: &[u8], bytes: &mut [u8]) -> State {
     state
 }
 
-// Room for nine parts.
-fn space() -> [u8; 589824]
-    ensures { λ r. ⌜ 589824 ≡ length r ⌝ }
+// Room for ten parts.
+fn space() -> [u8; 655360]
+    ensures { λ r. ⌜ 655360 ≡ length r ⌝ }
 {
-    [0; 589824]
+    [0; 655360]
 }
 
 fn main() {

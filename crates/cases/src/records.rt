@@ -11,6 +11,9 @@ pub(crate) const FILE: usize = 4;
 
 pub(crate) const KEPT: usize = 5;
 
+// the steps of a line, behind all parts
+const STEPS: usize = 589824;
+
 pub(crate) const ROOM: usize = 65536;
 
 pub(crate) fn least(a: usize, b: usize) -> usize
@@ -65,19 +68,29 @@ pub(crate) fn write(bytes: &mut [u8], at: usize, text: &[u8]) -> usize
     at + digits / 2
 }
 
-// Writes more bytes from a place on, each that many back plus a step; the steps are taken in turn.
-pub(crate) fn repeat(
-    bytes: &mut [u8],
-    at: usize,
-    count: usize,
-    back: usize,
-    steps: &[u8],
-    turn: usize,
-)
-    requires { ⌜ (back ≤ at) × (at < 1000000) × (count < 1000000) × (0 < turn) ⌝ }
+fn back_from(at: usize, back: usize) -> usize {
+    if back <= at { at - back } else { 0 }
+}
+
+// Which of some steps comes at a place, where they are taken in turn.
+fn turn(place: usize, steps: usize) -> usize
+    ensures { λ r. ⌜ r ≤ place ⌝ }
 {
+    if steps == 0 {
+        return 0;
+    }
+    least(place, place % steps)
+}
+
+// Writes more bytes from a place on, each the one that many back plus a step; without steps it is 0.
+pub(crate) fn repeat(bytes: &mut [u8], at: usize, count: usize, back: usize, steps: &[u8])
+    requires { ⌜ (at < 1000000) × (count < 1000000) ⌝ }
+{
+    put(bytes, STEPS, 0);
+    let given = write(bytes, STEPS, steps) - STEPS;
     for i in 0..count {
-        let value = wrapping_add_u8(byte(bytes, at + i - back), byte(steps, i % turn));
+        let step = byte(bytes, STEPS + turn(i, given));
+        let value = wrapping_add_u8(byte(bytes, back_from(at + i, back)), step);
         put(bytes, at + i, value);
     }
 }

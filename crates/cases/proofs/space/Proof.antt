@@ -6,7 +6,7 @@ use Rattle.cases.proofs.space.Statement.{statement}
 use Rattle.cases.proofs.space.Tie as tie
 
 returns : tie.Need-returns
-returns c = sym (length-replicate {A = ℕ} 589824 0)
+returns c = sym (length-replicate {A = ℕ} 655360 0)
 
 pub space-spec : {M : Type 1} → statement M
 space-spec = tie.close (tie.spec returns)

@@ -8,25 +8,37 @@ use Rattle.cases.proofs.records.repeat.Tie as tie
 use Rattle.std.proofs.num.wrapping_add_u8.Reads as wrapping-add-u8-reads
 
 abbrev Inv-loop : tie.InvT-loop
-Inv-loop bytes₀ at count back steps turn i₀ bytes i = length bytes ≡ length bytes₀
+Inv-loop bytes₀ at count back steps given i₀ bytes i = length bytes ≡ length bytes₀
 
 abbrev μ-loop : tie.MeasureT-loop
-μ-loop bytes₀ at count back steps turn i₀ bytes i = count - i
+μ-loop bytes₀ at count back steps given i₀ bytes i = count - i
+
+put-requires : tie.Need-put-requires Inv-loop μ-loop
+put-requires c κs = search needs
+
+write-requires : tie.Need-write-requires Inv-loop μ-loop
+write-requires c κs = search needs
+
+sub-given : tie.Need-sub-given Inv-loop μ-loop
+sub-given c = search needs
 
 loop-holds : tie.Need-loop-holds Inv-loop μ-loop
 loop-holds c = search needs
 
+turn-requires : tie.Need-turn-requires Inv-loop μ-loop
+turn-requires c κs = search needs
+
 add-byte : tie.Need-add-byte Inv-loop μ-loop
 add-byte c = search needs
-
-sub-byte : tie.Need-sub-byte Inv-loop μ-loop
-sub-byte c = search needs
 
 byte-requires : tie.Need-byte-requires Inv-loop μ-loop
 byte-requires c κs = search needs
 
-rem-byte : tie.Need-rem-byte Inv-loop μ-loop
-rem-byte c = search needs
+add-back-from : tie.Need-add-back-from Inv-loop μ-loop
+add-back-from c = search needs
+
+back-from-requires : tie.Need-back-from-requires Inv-loop μ-loop
+back-from-requires c κs = search needs
 
 byte-requires-2 : tie.Need-byte-requires-2 Inv-loop μ-loop
 byte-requires-2 c κs = search needs
@@ -37,8 +49,8 @@ wrapping-add-u8-requires c κs = search needs
 add-put : tie.Need-add-put Inv-loop μ-loop
 add-put c = search needs
 
-put-requires : tie.Need-put-requires Inv-loop μ-loop
-put-requires c κs = search needs
+put-requires-2 : tie.Need-put-requires-2 Inv-loop μ-loop
+put-requires-2 c κs = search needs
 
 add-i : tie.Need-add-i Inv-loop μ-loop
 add-i c = search needs
@@ -61,15 +73,19 @@ repeat-spec =
     (tie.spec
     Inv-loop
     μ-loop
+    put-requires
+    write-requires
+    sub-given
     loop-holds
+    turn-requires
     add-byte
-    sub-byte
     byte-requires
-    rem-byte
+    add-back-from
+    back-from-requires
     byte-requires-2
     wrapping-add-u8-requires
     add-put
-    put-requires
+    put-requires-2
     add-i
     loop-less
     loop-again
