@@ -11,7 +11,7 @@ use mathlib.Core.List.{List}
 use lib.Dec.{ltb, eqb}
 use lib.ListN.{getD}
 use Rattle.bits.specs.declared.sets.Set.{Set}
-use Rattle.bits.specs.Words.{On, LowestOn, HighestOn}
+use Rattle.bits.specs.Words.{On, LowestOn, HighestOn, With}
 use Rattle.bits.specs.First.{First}
 use Rattle.bits.specs.Packed.{Packed}
 use Rattle.bits.specs.Sets.{halfOf, Has, emptySet, Empty, Members, Union, Intersection, Difference, Last, Fits, sizeOf}
@@ -214,6 +214,17 @@ contained s w x {b} e f = (to (ltb w 128) b refl f, λ h. rw (lt-ltb w 128 (h .b
     to : (p q : Bool) → ltb w 128 ≡ p → ((q ≡ true) ↔ On x (w % 64)) → (p && q) ≡ true → Has s w
     to true q l g h = record { below = ltb-true w 128 l; on = rw e at (g .0 h) }
     to false q l g h = absurd (false≢true h)
+
+-- one number more, in the first word or in the second
+pub with-low : (s : Set) (k x : ℕ) → k < 64 → With (s .lo) k x → (y : ℕ) → Has (record { lo = x; hi = s .hi }) y ↔ (Has s y ⊎ (y ≡ k))
+with-low s k x l W = with-law s k (record { lo = x; hi = s .hi }) (omega (arith, l))
+    (λ j. ((λ o. ⊎-map (λ p. p) (λ e. (l, e)) (W .exactly j .0 o)), (λ o. W .exactly j .1 (⊎-map (λ p. p) (λ e. e .1) o))))
+    (λ j. (inl, ⊎-elim (λ o. o) (λ e. absurd (omega (arith, e, l)))))
+
+pub with-high : (s : Set) (k x : ℕ) → k < 64 → With (s .hi) k x → (y : ℕ) → Has (record { lo = s .lo; hi = x }) y ↔ (Has s y ⊎ (y ≡ 64 + k))
+with-high s k x l W = with-law s (64 + k) (record { lo = s .lo; hi = x }) (omega (arith, l))
+    (λ j. (inl, ⊎-elim (λ o. o) (λ e. absurd (omega (arith, e .0)))))
+    (λ j. ((λ o. ⊎-map (λ p. p) (λ e. omega (arith, e)) (W .exactly j .0 o)), (λ o. W .exactly j .1 (⊎-map (λ p. p) (λ e. omega (arith, e)) o))))
 
 -- the numbers from a up to i
 pub between-none : (a : ℕ) → Members (λ (w : ℕ). (a ≤ w) × (w < a)) emptySet

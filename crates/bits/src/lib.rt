@@ -2,6 +2,7 @@
 mod sets;
 pub mod tables;
 
+pub use sets::Marked;
 pub use sets::Set;
 pub use sets::read_set;
 ghost use mathlib.Core.Path.{_≡_};

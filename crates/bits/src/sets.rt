@@ -7,6 +7,7 @@ use super::highest_bit;
 use super::is_set;
 use super::lowest_bit;
 use super::read_u64;
+use super::with_bit;
 ghost use mathlib.Core.Path.{_≡_};
 ghost use mathlib.Core.Bool.{true};
 ghost use mathlib.Core.Logic.{_≢_, _⊎_, _↔_};
@@ -20,6 +21,12 @@ ghost use Rattle.bits.specs.Sets.{Has, emptySet, Empty, Members, Union, 
 pub struct Set {
     pub lo: u64,
     pub hi: u64,
+}
+
+// A set, and a number that has come into it.
+pub struct Marked {
+    pub set: Set,
+    pub at: usize,
 }
 
 impl Set {
@@ -107,15 +114,25 @@ impl Set {
         128
     }
 
-    // The highest number of the set.
-    pub fn highest(self) -> usize
-        requires { ⌜ ¬ Empty self ⌝ }
-        ensures { λ r. ⌜ Last self r ⌝ }
+    // The set with the highest number of another one too, and that number: one branch for both.
+    pub fn with_highest(self, other: Set) -> Marked
+        requires { ⌜ ¬ Empty other ⌝ }
+        ensures { λ r. ⌜ Last other (r .at) × ((y : ℕ) → Has (r .set) y ↔ (Has self y ⊎ (y ≡ r .at))) ⌝ }
     {
-        if self.hi != 0 {
-            return 64 + highest_bit(self.hi);
+        if other.hi != 0 {
+            let k = highest_bit(other.hi);
+            let set = Set {
+                lo: self.lo,
+                hi: with_bit(self.hi, k),
+            };
+            return Marked { set, at: 64 + k };
         }
-        highest_bit(self.lo)
+        let k = highest_bit(other.lo);
+        let set = Set {
+            lo: with_bit(self.lo, k),
+            hi: self.hi,
+        };
+        Marked { set, at: k }
     }
 
     // How many numbers are in the set.

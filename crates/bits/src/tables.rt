@@ -1,14 +1,17 @@
 // Tables of sets of the numbers below 128: two words a set, since a slice of structs has no proof of its own here.
 use super::Set;
+use super::is_set;
 use super::lowest_bit;
 use super::with_bit;
 use super::without_lowest;
 ghost use mathlib.Core.Path.{_≡_};
+ghost use mathlib.Core.Bool.{true};
+ghost use mathlib.Core.Logic.{_↔_};
 ghost use Prim.Native.Nat.{ℕ, _+_, _*_, _≤_, _<_};
 ghost use lib.ListN.{length};
 ghost use Rattle.bits.specs.Words.{On};
 ghost use Rattle.bits.specs.Sets.{Has, Members};
-ghost use Rattle.bits.specs.Tables.{rowOf, putRow, Gains, Above, InSome};
+ghost use Rattle.bits.specs.Tables.{rowOf, HasRow, putRow, Gains, Above, InSome};
 
 // Set v of a table.
 pub fn row(table: &[u64], v: usize) -> Set
@@ -19,6 +22,14 @@ pub fn row(table: &[u64], v: usize) -> Set
         lo: table[2 * v],
         hi: table[2 * v + 1],
     }
+}
+
+// Whether w is in set v of a table, by the one word that has its bit.
+pub fn in_row(table: &[u64], v: usize, w: usize) -> bool
+    requires { ⌜ (2 * v + 2 ≤ length (now table)) × (w < 128) ⌝ }
+    ensures { λ r. ⌜ (r ≡ true) ↔ HasRow (now (table .entry)) v w ⌝ }
+{
+    is_set(table[2 * v + w / 64], w % 64)
 }
 
 // Set v of a table becomes this set.

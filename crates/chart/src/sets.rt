@@ -1,5 +1,6 @@
 // Reachability along a table of successors: a set for each vertex.
 use bits::Set;
+use bits::tables::in_row;
 use bits::tables::put_row;
 use bits::tables::row;
 ghost use mathlib.Core.Path.{_≡_};
@@ -18,7 +19,7 @@ pub struct Search {
 
 // Whether all that w reaches is known, and `stop` is neither w nor among it.
 fn jumps(after: &[u64; 256], from: usize, to: usize, stop: usize, w: usize) -> bool
-    requires { ⌜ (length (now after) ≡ 256) × (w < 128) ⌝ }
+    requires { ⌜ (length (now after) ≡ 256) × (stop < 128) × (w < 128) ⌝ }
     ensures { λ r. ⌜ (r ≡ true → Jumps (now (after .entry)) from to stop w) ⌝ }
 {
     if w < from {
@@ -30,7 +31,7 @@ fn jumps(after: &[u64; 256], from: usize, to: usize, stop: usize, w: usize) -> b
     if stop == w {
         return false;
     }
-    !row(after, w).contains(stop)
+    !in_row(after, w, stop)
 }
 
 // The turn of w, which is past: its successors are seen, unless it is `stop`. Where all that w reaches is known, that is seen and past.
@@ -43,7 +44,7 @@ fn visit(
     w: usize,
     s: Search,
 ) -> Search
-    requires { ⌜ (length (now next) ≡ 256) × (length (now after) ≡ 256) × Known (now next) (now after) from to × (w < 128) ⌝ }
+    requires { ⌜ (length (now next) ≡ 256) × (length (now after) ≡ 256) × Known (now next) (now after) from to × (stop < 128) × (w < 128) ⌝ }
     ensures { λ r. ⌜ Visited (now (next .entry)) stop w s r ⌝ }
 {
     let seen = s.seen;
@@ -74,19 +75,17 @@ pub fn closure_knowing(
     stop: usize,
     set: Set,
 ) -> Set
-    requires { ⌜ (length (now next) ≡ 256) × (length (now after) ≡ 256) × Known (now next) (now after) from to ⌝ }
+    requires { ⌜ (length (now next) ≡ 256) × (length (now after) ≡ 256) × Known (now next) (now after) from to × (stop < 128) ⌝ }
     ensures { λ r. ⌜ Members (FromSet (Avoid stop (Leads (now (next .entry)))) set) r ⌝ }
 {
     let mut seen = set;
     let mut past = Set::empty();
     let mut left = set;
     while !left.is_empty() {
-        let w = left.highest();
-        let before = Search {
-            seen,
-            past: past.with(w),
-        };
-        let s = visit(next, after, from, to, stop, w, before);
+        let marked = past.with_highest(left);
+        past = marked.set;
+        let before = Search { seen, past };
+        let s = visit(next, after, from, to, stop, marked.at, before);
         seen = s.seen;
         past = s.past;
         left = seen.difference(past);
@@ -96,7 +95,7 @@ pub fn closure_knowing(
 
 // The same where nothing is known.
 pub fn closure(next: &[u64; 256], stop: usize, set: Set) -> Set
-    requires { ⌜ length (now next) ≡ 256 ⌝ }
+    requires { ⌜ (length (now next) ≡ 256) × (stop < 128) ⌝ }
     ensures { λ r. ⌜ Members (FromSet (Avoid stop (Leads (now (next .entry)))) set) r ⌝ }
 {
     closure_knowing(next, next, 0, 0, stop, set)

@@ -3,8 +3,8 @@ use super::levels::next_level;
 use super::levels::sort_entries;
 use bits::Set;
 use bits::byte;
-use bits::is_set;
 use bits::lowest_bit;
+use bits::tables::in_row;
 use bits::tables::row;
 use bits::with_bit;
 use bits::without_lowest;
@@ -48,13 +48,12 @@ fn below_level(set: Set, high: &[u64; 512], v: usize, level: usize) -> bool
     not_lower(set, high, v, level) == 128
 }
 
-// Whether x is v or leads to it, by the one word of its set that has the bit of v.
+// Whether x is v or leads to it.
 fn comes_back(after: &[u64; 256], v: usize, x: usize) -> bool
     requires { ⌜ (length (now after) ≡ 256) × (v < 128) × (x < 128) ⌝ }
     ensures { λ r. ⌜ (r ≡ true) ↔ Back (now (after .entry)) v x ⌝ }
 {
-    let word = after[2 * x + v / 64];
-    (x == v) | is_set(word, v % 64)
+    (x == v) | in_row(after, x, v)
 }
 
 // The word, with bit k too where x is v or leads to it.

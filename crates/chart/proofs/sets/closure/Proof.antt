@@ -4,7 +4,7 @@ use Rattle.chart.proofs.sets.closure.Statement.{statement}
 use Rattle.chart.proofs.sets.closure.Tie as tie
 
 closure-knowing-requires : tie.Need-closure-knowing-requires
-closure-knowing-requires c κs = (c .pre, c .pre, known-none _ _)
+closure-knowing-requires c κs = (c .pre .0, c .pre .0, known-none _ _, c .pre .1)
 
 returns : tie.Need-returns
 returns c = search needs

@@ -36,7 +36,7 @@ closure-knowing-requires : tie.Need-closure-knowing-requires Inv-loop μ-loop
 closure-knowing-requires c κs =
     let i = c .before .before .before .before .before .before .loop .inv in
     let t = c .before .before .before .turns .ensures in
-    (i .0, i .3 .long, rw (t .begin, t .end) (i .3 .known))
+    (i .0, i .3 .long, rw (t .begin, t .end) (i .3 .known), omega (arith, c .before .before .before .before .turn .ensures .1, i .1))
 
 contains-requires : tie.Need-contains-requires Inv-loop μ-loop
 contains-requires c κs = search needs

@@ -15,15 +15,11 @@ returns-2 c = λ h. absurd (false≢true h)
 returns-3 : tie.Need-returns-3
 returns-3 c = λ h. absurd (false≢true h)
 
-row-requires : tie.Need-row-requires
-row-requires c κs = search needs
-
-contains-requires : tie.Need-contains-requires
-contains-requires c κs = search needs
+in-row-requires : tie.Need-in-row-requires
+in-row-requires c κs = search needs
 
 returns-4 : tie.Need-returns-4
-returns-4 c = λ h. record { above = omega arith; below = omega arith; apart = λ e. c .before .before .before .if3 .left (sym e); never = λ g. true≢false (sym (c .contains .ensures .1 (rw (c .before .row .ensures) g)) ∙ not-true _ h) }
+returns-4 c = λ h. record { above = omega arith; below = omega arith; apart = λ e. c .before .before .if3 .left (sym e); never = λ g. true≢false (sym (c .in-row .ensures .1 g) ∙ not-true _ h) }
 
 pub jumps-spec : {M : Type 1} → statement M
-jumps-spec =
-    tie.close (tie.spec returns returns-2 returns-3 row-requires contains-requires returns-4)
+jumps-spec = tie.close (tie.spec returns returns-2 returns-3 in-row-requires returns-4)

@@ -19,7 +19,7 @@ returns : tie.Need-returns
 returns c =
     let k = c .before .before .before .before .before .before .before .before in
     let all = c .before .before .row .ensures in
-    visit-jump (k .args .next .now) (k .args .after .now) (k .args .from) (k .args .to) (k .args .stop) (k .args .w) (k .args .s) _ _ (k .pre .2) (k .pre .3)
+    visit-jump (k .args .next .now) (k .args .after .now) (k .args .from) (k .args .to) (k .args .stop) (k .args .w) (k .args .s) _ _ (k .pre .2) (k .pre .4)
     (c .before .before .before .before .before .jumps .ensures (c .before .before .before .before .if1 .taken)) (rw all at (c .before .union .ensures)) (rw all at (c .union2 .ensures))
 
 returns-2 : tie.Need-returns-2
@@ -34,7 +34,7 @@ union-requires-3 c κs = search needs
 returns-3 : tie.Need-returns-3
 returns-3 c =
     let k = c .before .before .before .before .before .before .before .before in
-    visit-next (k .args .next .now) (k .args .stop) (k .args .w) (k .args .s) _ (k .pre .3) (c .before .before .before .if2 .left) (rw (c .before .row2 .ensures) at (c .union3 .ensures))
+    visit-next (k .args .next .now) (k .args .stop) (k .args .w) (k .args .s) _ (k .pre .4) (c .before .before .before .if2 .left) (rw (c .before .row2 .ensures) at (c .union3 .ensures))
 
 pub visit-spec : {M : Type 1} → statement M
 visit-spec =

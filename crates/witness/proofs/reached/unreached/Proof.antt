@@ -39,7 +39,7 @@ with-requires : tie.Need-with-requires Inv-loop μ-loop
 with-requires c κs = let w = well-formed _ (c .before .before .before .before .pre .0) .header in omega arith
 
 closure-requires : tie.Need-closure-requires Inv-loop μ-loop
-closure-requires c κs = c .before .before .before .before .before .pre .1
+closure-requires c κs = (c .before .before .before .before .before .pre .1, omega arith)
 
 loop-holds : tie.Need-loop-holds Inv-loop μ-loop
 loop-holds c =
