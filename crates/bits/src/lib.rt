@@ -1,4 +1,4 @@
-// Bytes as numbers, sets of numbers as bits of bytes (document 01, relations and follower states), and words of 64 bits.
+// Bytes as numbers, sets of numbers as bits of bytes (document 01: relations, follower states), and words of 64 bits.
 mod sets;
 pub mod tables;
 

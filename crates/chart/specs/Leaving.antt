@@ -32,6 +32,13 @@ leavingOf b v = whenPassed (checkOf b) (leavingAt b v 0 (countOf b)) []
 pub record FromBelow (b : List ℕ) (v i : ℕ) : Type 0 where
   pub is : fromOf b i < v
 
+-- a place of a body of n transitions that passes, not past those of v
+pub record NotPast (b : List ℕ) (n v at : ℕ) : Type 0 where
+  pub passed : checkOf b ≡ Passed
+  pub many : n ≡ countOf b
+  pub within : at ≤ n
+  pub below : (i : ℕ) → i < at → fromOf b i < v
+
 -- entry v of r is the number of transitions whose from is below v: where those of v begin
 pub record Begins (b r : List ℕ) : Type 0 where
   pub long : length r ≡ 129

@@ -32,7 +32,8 @@ pub record Jumps (after : List ℕ) (from to stop w : ℕ) : Type 0 where
   pub apart : w ≢ stop
   pub never : ¬ HasRow after w stop
 
--- after the turn of w, which was past: what w leads to is seen, and so is what the vertices lead to that have come to be past
+-- after the turn of w, which was past: what w leads to is seen, and so is what the vertices lead to that have come to
+-- be past
 pub record Visited (a : List ℕ) (stop w : ℕ) (s r : Search) : Type 0 where
   pub grows : (y : ℕ) → Has (s .seen) y → Has (r .seen) y
   pub sound : (y : ℕ) → Has (r .seen) y → Has (s .seen) y ⊎ Star (Avoid stop (Leads a)) w y
@@ -59,14 +60,15 @@ pub record Turns (i n : ℕ) (down : Bool) (r : List ℕ) : Type 0 where
   pub begin : getD r 0 0 ≡ beginOf i n down
   pub end : getD r 1 0 ≡ endOf i n down
 
--- r is the first turn whose vertex is on a cycle, or n: then set x of after has what x reaches, for the first n vertices
+-- r is the first turn whose vertex is on a cycle, or n: then set x of after has what x reaches, for x below n
 pub record Searched (a : List ℕ) (n : ℕ) (down : Bool) (before : List ℕ) (r : ℕ) (after : List ℕ) : Type 0 where
   pub long : length after ≡ 256
   pub first : First (λ (j : ℕ). OnCycle a (turnOf j n down)) 0 n r
   pub known : r ≡ n → Known a after 0 n
   pub others : (x : ℕ) → n ≤ x → rowOf after x ≡ rowOf before x
 
--- r is the lowest of the first n vertices that is on a cycle, or n; what the lent table has then, and where there is a cycle
+-- r is the lowest of the first n vertices that is on a cycle, or n; what the lent table has then, and where there is
+-- a cycle
 pub record Cycles (a : List ℕ) (n : ℕ) (before : List ℕ) (r : ℕ) (after : List ℕ) : Type 0 where
   pub long : length after ≡ 256
   pub first : First (OnCycle a) 0 n r

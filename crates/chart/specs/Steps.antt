@@ -1,4 +1,4 @@
--- A chart body as the theory has charts: its transitions as a list, and as relations under a labelling and standing bytes.
+-- A chart body as the theory has charts: its transitions as a list, and as relations.
 use Prim.Native.Nat.{ℕ, zero, suc, _<_}
 use mathlib.Core.Path.{_≡_}
 use mathlib.Core.List.{List, [], _∷_}

@@ -1,13 +1,13 @@
-// Chart bodies (document 01, kind 2): a header of four bytes (V, start, two bytes of T) and T transitions of four bytes.
+// Chart bodies (document 01, kind 2): a header of four bytes (V, start, two of T) and T transitions of four bytes.
 pub mod sets;
 
 ghost use mathlib.Core.Path.{_≡_};
 ghost use Prim.Native.Nat.{ℕ, _+_, _*_, _≤_, _<_};
 ghost use lib.ListN.{length, getD};
-ghost use Rattle.chart.specs.Bodies.{countOf, fromOf};
+ghost use Rattle.chart.specs.Bodies.{countOf};
 ghost use Rattle.chart.specs.Checks.{headerOk, checkOf};
 ghost use Rattle.chart.specs.Codes.{reversedOf, codeOk};
-ghost use Rattle.chart.specs.Leaving.{leavingAt, leavingOf, FromBelow, Begins};
+ghost use Rattle.chart.specs.Leaving.{leavingAt, leavingOf, FromBelow, NotPast, Begins};
 ghost use Rattle.chart.specs.Steps.{Kept};
 ghost use Rattle.bits.specs.First.{Split};
 ghost use Rattle.bits.specs.Tables.{Table, Gains, When};
@@ -49,8 +49,8 @@ fn reversed(code: usize) -> usize
         + code / 16777216
 }
 
-// 21 of a transition by its code and its key, the code reversed, after the key before it. That is 16777215 or more, so the first
-// comparison refuses a from of 0; the last refuses a last byte other than 0.
+// 21 of a transition by its code and its key, the code reversed, after the key before it. That is 16777215 or more, so
+// the first comparison refuses a from of 0; the last refuses a last byte other than 0.
 fn code_ok(code: usize, key: usize, v: usize, before: usize) -> bool
     requires { ⌜ v ≤ 128 ⌝ }
     ensures { λ r. ⌜ r ≡ codeOk code key v before ⌝ }
@@ -113,7 +113,8 @@ fn leaving_part(body: &[u8], v: usize) -> &[u8]
     &body[a..e]
 }
 
-// The transitions that leave a vertex, as a part of the body: nothing for a number of V or above, or where 20 or 21 refuses.
+// The transitions that leave a vertex, as a part of the body: nothing for a number of V or above, or where 20 or 21
+// refuses.
 pub fn leaving(body: &[u8], vertex: usize) -> &[u8]
     ensures { λ r. ⌜ now r ≡ leavingOf (now (body .entry)) vertex ⌝ }
 {
@@ -123,10 +124,10 @@ pub fn leaving(body: &[u8], vertex: usize) -> &[u8]
     }
 }
 
-// On from a place with only froms below v before it to another, by eights: froms do not fall.
+// From a place that is not past the transitions of v on to another, by eights: froms do not fall.
 fn skip(body: &[u8], n: usize, v: usize, at: usize) -> usize
-    requires { ⌜ (checkOf (now body) ≡ Stage.Passed) × (n ≡ countOf (now body)) × (at ≤ n) × ((i : ℕ) → i < at → fromOf (now body) i < v) ⌝ }
-    ensures { λ r. ⌜ (r ≤ n) × ((i : ℕ) → i < r → fromOf (now (body .entry)) i < v) ⌝ }
+    requires { ⌜ NotPast (now body) n v at ⌝ }
+    ensures { λ r. ⌜ NotPast (now (body .entry)) n v r ⌝ }
 {
     let mut i = at;
     while i + 8 <= n {
@@ -140,7 +141,7 @@ fn skip(body: &[u8], n: usize, v: usize, at: usize) -> usize
 
 // Where the transitions of v begin, from a place that is not past them.
 fn past(body: &[u8], n: usize, v: usize, at: usize) -> usize
-    requires { ⌜ (checkOf (now body) ≡ Stage.Passed) × (n ≡ countOf (now body)) × (at ≤ n) × ((i : ℕ) → i < at → fromOf (now body) i < v) ⌝ }
+    requires { ⌜ NotPast (now body) n v at ⌝ }
     ensures { λ r. ⌜ Split (FromBelow (now (body .entry)) v) n r ⌝ }
 {
     let mut i = skip(body, n, v, at);
@@ -153,7 +154,8 @@ fn past(body: &[u8], n: usize, v: usize, at: usize) -> usize
     i
 }
 
-// For each v to 128, the number of transitions whose from is below v: those of a vertex u stand from entry u up to entry u + 1.
+// For each v to 128, the number of transitions whose from is below v: those of a vertex u stand from entry u up to
+// entry u + 1.
 pub fn begins(body: &[u8]) -> [usize; 129]
     requires { ⌜ checkOf (now body) ≡ Stage.Passed ⌝ }
     ensures { λ r. ⌜ Begins (now (body .entry)) r ⌝ }

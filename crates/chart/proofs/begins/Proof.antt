@@ -31,7 +31,7 @@ loop-holds c =
 past-requires : tie.Need-past-requires Inv-loop μ-loop
 past-requires c κs =
     let i = c .before .loop .inv in
-    (i .0, i .1, i .4 .within, i .4 .passed)
+    record { passed = i .0; many = i .1; within = i .4 .within; below = i .4 .passed }
 
 mul-begins : tie.Need-mul-begins Inv-loop μ-loop
 mul-begins c = search needs
