@@ -4,7 +4,7 @@ use mathlib.Core.Path.{_≡_}
 use mathlib.Core.Logic.{_≢_, _⊎_, _↔_}
 use mathlib.Core.Bool.{Bool, cond}
 use mathlib.Core.List.{List}
-use lib.ListN.{length, getD, replicate}
+use lib.ListN.{length, replicate}
 use Rattle.theory.specs.Paths.{Edges, Star, Plus, Avoid}
 use Rattle.bits.specs.First.{First}
 use Rattle.bits.specs.declared.sets.Set.{Set}
@@ -54,11 +54,6 @@ beginOf i n down = cond down (n - i) 0
 
 abbrev pub endOf : ℕ → ℕ → Bool → ℕ
 endOf i n down = cond down n i
-
-pub record Turns (i n : ℕ) (down : Bool) (r : List ℕ) : Type 0 where
-  pub long : length r ≡ 2
-  pub begin : getD r 0 0 ≡ beginOf i n down
-  pub end : getD r 1 0 ≡ endOf i n down
 
 -- r is the first turn whose vertex is on a cycle, or n: then set x of after has what x reaches, for x below n
 pub record Searched (a : List ℕ) (n : ℕ) (down : Bool) (before : List ℕ) (r : ℕ) (after : List ℕ) : Type 0 where

@@ -9,12 +9,18 @@ ghost use Prim.Native.Nat.{_≤_, _<_};
 ghost use lib.ListN.{length};
 ghost use Rattle.bits.specs.Sets.{Members};
 ghost use Rattle.theory.specs.Paths.{Avoid};
-ghost use Rattle.chart.specs.Sets.{Leads, FromSet, Known, turnOf, Turns, Jumps, Visited, Searched, Cycles};
+ghost use Rattle.chart.specs.Sets.{Leads, FromSet, Known, turnOf, beginOf, endOf, Jumps, Visited, Searched, Cycles};
 
 // What is seen, and those of it whose successors are seen too.
 pub struct Search {
     pub seen: Set,
     pub past: Set,
+}
+
+// The vertices from one up to another.
+pub struct Span {
+    pub from: usize,
+    pub to: usize,
 }
 
 // Whether all that w reaches is known, and `stop` is neither w nor among it.
@@ -120,15 +126,15 @@ fn turn(i: usize, n: usize, down: bool) -> usize
     i
 }
 
-// The vertices of the first i turns: from the first number up to the second.
-fn turns(i: usize, n: usize, down: bool) -> [usize; 2]
+// The vertices of the first i turns.
+fn turns(i: usize, n: usize, down: bool) -> Span
     requires { ⌜ i ≤ n ⌝ }
-    ensures { λ r. ⌜ Turns i n down r ⌝ }
+    ensures { λ r. ⌜ (r .from ≡ beginOf i n down) × (r .to ≡ endOf i n down) ⌝ }
 {
     if down {
-        return [n - i, n];
+        return Span { from: n - i, to: n };
     }
-    [0, i]
+    Span { from: 0, to: i }
 }
 
 // The first turn whose vertex reaches itself, or n: the first n vertices have a turn each. What each reaches is kept for
@@ -141,7 +147,7 @@ fn first_turn(next: &[u64; 256], n: usize, down: bool, after: &mut [u64; 256]) -
     while i < n {
         let w = turn(i, n, down);
         let known = turns(i, n, down);
-        let set = closure_knowing(next, after, known[0], known[1], w, row(next, w));
+        let set = closure_knowing(next, after, known.from, known.to, w, row(next, w));
         if set.contains(w) {
             return i;
         }

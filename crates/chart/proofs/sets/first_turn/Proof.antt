@@ -23,12 +23,6 @@ turn-requires c κs = search needs
 turns-requires : tie.Need-turns-requires Inv-loop μ-loop
 turns-requires c κs = search needs
 
-array-read-closure-knowing : tie.Need-array-read-closure-knowing Inv-loop μ-loop
-array-read-closure-knowing c = search needs
-
-array-read-closure-knowing-2 : tie.Need-array-read-closure-knowing-2 Inv-loop μ-loop
-array-read-closure-knowing-2 c = search needs
-
 row-requires : tie.Need-row-requires Inv-loop μ-loop
 row-requires c κs = search needs
 
@@ -36,7 +30,7 @@ closure-knowing-requires : tie.Need-closure-knowing-requires Inv-loop μ-loop
 closure-knowing-requires c κs =
     let i = c .before .before .before .before .before .before .loop .inv in
     let t = c .before .before .before .turns .ensures in
-    (i .0, i .3 .long, rw (t .begin, t .end) (i .3 .known), omega (arith, c .before .before .before .before .turn .ensures .1, i .1))
+    (i .0, i .3 .long, rw (t .0, t .1) (i .3 .known), omega (arith, c .before .before .before .before .turn .ensures .1, i .1))
 
 contains-requires : tie.Need-contains-requires Inv-loop μ-loop
 contains-requires c κs = search needs
@@ -76,8 +70,6 @@ first-turn-spec =
     loop-holds
     turn-requires
     turns-requires
-    array-read-closure-knowing
-    array-read-closure-knowing-2
     row-requires
     closure-knowing-requires
     contains-requires
