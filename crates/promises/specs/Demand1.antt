@@ -22,7 +22,7 @@ use Rattle.bisimulation.specs.Relations.{indexedOf}
 use Rattle.bisimulation.specs.Answers.{Related, Stray, RelationFits, EndsAgree}
 use Rattle.bisimulation.specs.RelationAnswers.{Comes}
 use Rattle.bits.specs.Packed.{twoAt}
-use Rattle.verdict.specs.Files.{endAt, offsetOf, Whole, Before}
+use Rattle.verdict.specs.Files.{endAt, offsetOf, Whole, RecordsBefore}
 use Rattle.verdict.specs.Verdicts.{nodesIn, chartIn, labelsIn, relationIn}
 use Rattle.promises.specs.Accepted.{Holds}
 
@@ -127,11 +127,11 @@ pub data Sentence (f : List ℕ) : (n p q r : ℕ) → Type 0 where
   -- the transfer: the file is too long
   says-1 : 43536 < length f → Sentence f 1 0 0 0
   -- header or body incomplete; the record
-  says-2 : {k : ℕ} → k < 4 → Before f k → Incomplete f k → Sentence f 2 (suc k) 0 0
+  says-2 : {k : ℕ} → k < 4 → RecordsBefore f k → Incomplete f k → Sentence f 2 (suc k) 0 0
   -- wrong kind; the record and the kind found
-  says-3 : {k found : ℕ} → k < 4 → Before f k → WrongKind f k found → Sentence f 3 (suc k) found 0
+  says-3 : {k found : ℕ} → k < 4 → RecordsBefore f k → WrongKind f k found → Sentence f 3 (suc k) found 0
   -- bytes after record four; their offset
-  says-4 : Before f 4 → offsetOf f 4 < length f → Sentence f 4 (offsetOf f 4) 0 0
+  says-4 : RecordsBefore f 4 → offsetOf f 4 < length f → Sentence f 4 (offsetOf f 4) 0 0
   -- the sequence's author: not 1 to 127 nodes of four bytes; the length
   says-10 : Whole f → ¬ nodes.Sized (nodesIn f) → Sentence f 10 (length (nodesIn f)) 0 0
   -- malformed node; the lowest
