@@ -82,8 +82,8 @@ pub record LabelsPass (f : List ℕ) : Type 0 where
 abbrev pub AtLoop : List ℕ → ℕ → ℕ → Type 0
 AtLoop f v l = ChartPasses f × labelling.FirstLoop (chartIn f) (labelsIn f) v l
 
-abbrev pub InBody : List ℕ → ℕ → ℕ → ℕ → Type 0
-InBody f v l w = labelling.InBody (chartIn f) (labelsIn f) v l w
+abbrev pub InBodyIn : List ℕ → ℕ → ℕ → ℕ → Type 0
+InBodyIn f v l w = labelling.InBody (chartIn f) (labelsIn f) v l w
 
 -- THE PAIRS, of a vertex of the expression's chart and one of the file's
 abbrev pub expressionIn : List ℕ → List ℕ
@@ -150,11 +150,11 @@ pub data Sentence (f : List ℕ) : (n p q r : ℕ) → Type 0 where
   -- vertex on a branch cycle, all being reached; the lowest
   says-32 : {p : ℕ} → OneLabelEach f → ConnectedIn f → Least (OnBranchCycle (stepsIn f)) p → Sentence f 32 p 0 0
   -- then by vertex and level: no way back
-  says-33 : {v l : ℕ} → AtLoop f v l → ¬ InBody f v l v → Sentence f 33 v l 0
+  says-33 : {v l : ℕ} → AtLoop f v l → ¬ InBodyIn f v l v → Sentence f 33 v l 0
   -- the end in the body
-  says-34 : {v l : ℕ} → AtLoop f v l → InBody f v l v → InBody f v l 0 → Sentence f 34 v l 0
+  says-34 : {v l : ℕ} → AtLoop f v l → InBodyIn f v l v → InBodyIn f v l 0 → Sentence f 34 v l 0
   -- entry of equal or higher level at a body vertex r other than v; the lowest
-  says-35 : {v l r : ℕ} → AtLoop f v l → InBody f v l v → ¬ InBody f v l 0 → Least (NotLower (stepsIn f) v l) r
+  says-35 : {v l r : ℕ} → AtLoop f v l → InBodyIn f v l v → ¬ InBodyIn f v l 0 → Least (NotLower (stepsIn f) v l) r
       → Sentence f 35 v l r
   -- the relation's author: not N + 1 rows of 16 bytes; the length
   says-40 : LabelsPass f → ¬ RowsFit f → Sentence f 40 (length (relationIn f)) 0 0
