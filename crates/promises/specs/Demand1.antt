@@ -19,7 +19,7 @@ use Rattle.expression.specs.Table as nodes
 use Rattle.expression.specs.Body.{bodyOf}
 use Rattle.witness.specs.LabellingAnswers as labelling
 use Rattle.bisimulation.specs.Relations.{indexedOf}
-use Rattle.bisimulation.specs.Answers.{Related, Stray, RelationFits, EndsAgree}
+use Rattle.bisimulation.specs.Answers.{Related, StrayBit, RelationFits, EndsAgree}
 use Rattle.bisimulation.specs.RelationAnswers.{Comes}
 use Rattle.bits.specs.Packed.{twoAt}
 use Rattle.verdict.specs.Files.{endAt, offsetOf, Whole, RecordsBefore}
@@ -159,7 +159,7 @@ pub data Sentence (f : List ℕ) : (n p q r : ℕ) → Type 0 where
   -- the relation's author: not N + 1 rows of 16 bytes; the length
   says-40 : LabelsPass f → ¬ RowsFit f → Sentence f 40 (length (relationIn f)) 0 0
   -- bit for a vertex of V or above; the first, by row and then by column
-  says-41 : {p q : ℕ} → LabelsPass f → RowsFit f → FirstPair (Stray (chartIn f) (relationIn f)) p q → Sentence f 41 p q 0
+  says-41 : {p q : ℕ} → LabelsPass f → RowsFit f → FirstPair (StrayBit (chartIn f) (relationIn f)) p q → Sentence f 41 p q 0
   -- starts unrelated; row N and the start
   says-42 : PairsFit f → ¬ RelatedIn f (nodes.count (nodesIn f)) (startOf (chartIn f))
       → Sentence f 42 (nodes.count (nodesIn f)) (startOf (chartIn f)) 0
