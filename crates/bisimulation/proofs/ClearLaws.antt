@@ -21,7 +21,7 @@ use Rattle.bisimulation.specs.declared.clearing.Matches.{Matches}
 use Rattle.bisimulation.specs.Relations.{indexedOf}
 use Rattle.bisimulation.specs.Answers.{Related, RelationFits, Passes}
 use Rattle.bisimulation.specs.Suspects.{Acting, UsedBy, Used, Tabled, Match, MatchedIn, Able, Walked, Cleared, SameEnd, Refusable, Gathered}
-use Rattle.bisimulation.specs.Pairs.{Told, Sought}
+use Rattle.bisimulation.specs.Pairs.{StepTables, Sought}
 use Rattle.bisimulation.proofs.StepLaws.{step-of, at-step, match-low, is-matched}
 
 -- `matching`: x and y are the target and the action that the code reads, and s is the set of the target
@@ -163,7 +163,7 @@ gather-more {columns} {into} {acting} {users} {body} {t} {both} {used} {v} {set}
         (λ e. G .others u w (omega arith) h (λ z. n (rw (put-other t v more w e) z)))
 
 -- what the tables let pass does pass, of every chart whose steps are so numbered
-module _ {into acting words users body e relation : List ℕ} {rows used : ℕ} (B : Bytes body) (W : WellFormed body) (T : Told into acting words e relation) (few : rows ≤ 128) (U : Table 64 (UsedBy words rows) users) (all : Used words rows used) where
+module _ {into acting words users body e relation : List ℕ} {rows used : ℕ} (B : Bytes body) (W : WellFormed body) (T : StepTables into acting words e relation) (few : rows ≤ 128) (U : Table 64 (UsedBy words rows) users) (all : Used words rows used) where
   cleared-passes : (u v : ℕ) → u < rows → Cleared into acting users used body u v → Passes e body relation u v
   cleared-passes u v l C = record { c43 = C .ends; c44 = forth; c45 = back }
     where
@@ -184,7 +184,7 @@ module _ {into acting words users body e relation : List ℕ} {rows used : ℕ} 
 
   pub sought : {columns table : List ℕ} → verticesOf e ≡ rows → Table 128 (converse (Related relation)) columns → Gathered columns into acting users used body (verticesOf body) table → RelationFits e body relation → Sought into acting words table body e relation
   sought q C G F = record {
-    told = T;
+    tables = T;
     fits = F;
     given = λ u v m t. C .exactly v u (omega (arith, W .header .vertices-high)) (t .below) .0 (G .given u v m t);
     others = λ u v r n.

@@ -17,8 +17,8 @@ use Rattle.report.specs.declared.Stage.the-variants.{Passed, Refused}
 use Rattle.chart.proofs.Checks.{well-formed}
 use Rattle.chart.specs.Bodies.{verticesOf, startOf}
 use Rattle.chart.specs.Leaving.{whenPassed}
-use Rattle.bisimulation.specs.Relations.{relatedTest, strayTest, answered, outcomeOf, relationOf, openingOf}
-use Rattle.bisimulation.specs.Answers.{Related, Stray, StrayAnswer, RelationFits, SomeChart, PairsAnswer}
+use Rattle.bisimulation.specs.Relations.{relatedTest, strayBitTest, relationStage, relationOutcomeOf, relationOf, openingOf}
+use Rattle.bisimulation.specs.Answers.{Related, StrayBit, StrayAnswer, RelationFits, SomeChart, PairsAnswer}
 use Rattle.bisimulation.proofs.PairChecks.{passed-refused}
 use Rattle.bisimulation.proofs.Relations.{one-first, fits-of, strays-found}
 
@@ -30,16 +30,16 @@ module _ (vertices start : ℕ) (b relation : List ℕ) where
 
   module _ (w : length relation ≡ 16 * vertices) {s : Stage} (A : StrayAnswer b relation s) where
     abbrev row : ℕ
-    row = firstRow (strayTest b relation) vertices 128
+    row = firstRow (strayBitTest b relation) vertices 128
 
     abbrev column : ℕ
-    column = lowest (strayTest b relation row) 0 128
+    column = lowest (strayBitTest b relation row) 0 128
 
     pub opening-41 : {p : Place} → s ≡ Refused p → s ≡ openingOf vertices start b relation
     unfolding openingOf
     opening-41 {p} r = let (u, v, F, k) = A .refused p r in k ∙ rw (eq-eqb (length relation) (16 * vertices) w) (go u v F (ltb row vertices) refl)
       where
-        go : (u v : ℕ) → FirstPair (Stray b relation) u v → (x : Bool) → ltb row vertices ≡ x → Refused (PairNoVertex u v) ≡ cond x (Refused (PairNoVertex row column)) (cond (relatedTest relation start (startOf b)) Passed (Refused (PairStarts start (startOf b))))
+        go : (u v : ℕ) → FirstPair (StrayBit b relation) u v → (x : Bool) → ltb row vertices ≡ x → Refused (PairNoVertex u v) ≡ cond x (Refused (PairNoVertex row column)) (cond (relatedTest relation start (startOf b)) Passed (Refused (PairStarts start (startOf b))))
         go u v F true e = let (f, g) = one-first F (strays-found b relation vertices w .0 (ltb-true row vertices e)) in rw (f, g) refl
         go u v F false e = absurd (strays-found b relation vertices w .1 (ltb-false row vertices e) u v (F .holds))
 
@@ -65,23 +65,23 @@ module _ (vertices start : ℕ) (b relation : List ℕ) where
 
 -- 40 TO 45 ARE 40 TO 42, AND THEN 43 TO 45
 module _ (e b relation : List ℕ) where
-  pub relation-opening : relationOf e b relation ≡ whenPassed (openingOf (verticesOf e) (startOf e) b relation) (answered e b (outcomeOf e b relation)) (openingOf (verticesOf e) (startOf e) b relation)
-  unfolding relationOf openingOf outcomeOf relationOutcome
+  pub relation-opening : relationOf e b relation ≡ whenPassed (openingOf (verticesOf e) (startOf e) b relation) (relationStage e b (relationOutcomeOf e b relation)) (openingOf (verticesOf e) (startOf e) b relation)
+  unfolding relationOf openingOf relationOutcomeOf relationOutcome
   relation-opening = go (eqb (length relation) (16 * verticesOf e)) (ltb row (verticesOf e)) (relatedTest relation (startOf e) (startOf b)) refl
     where
       row : ℕ
-      row = firstRow (strayTest b relation) (verticesOf e) 128
+      row = firstRow (strayBitTest b relation) (verticesOf e) 128
 
       place : Stage
-      place = Refused (PairNoVertex row (lowest (strayTest b relation row) 0 128))
+      place = Refused (PairNoVertex row (lowest (strayBitTest b relation row) 0 128))
 
-      apart : relatedTest relation (startOf e) (startOf b) ≡ false → answered e b (outcomeOf e b relation) ≡ Refused (PairStarts (startOf e) (startOf b))
+      apart : relatedTest relation (startOf e) (startOf b) ≡ false → relationStage e b (relationOutcomeOf e b relation) ≡ Refused (PairStarts (startOf e) (startOf b))
       apart h = rw h refl
 
       opened : (x y z : Bool) → Stage
       opened x y z = cond x (cond y place (cond z Passed (Refused (PairStarts (startOf e) (startOf b))))) (Refused (RelationLength (length relation)))
 
-      go : (x y z : Bool) → relatedTest relation (startOf e) (startOf b) ≡ z → cond x (cond y place (answered e b (outcomeOf e b relation))) (Refused (RelationLength (length relation))) ≡ whenPassed (opened x y z) (answered e b (outcomeOf e b relation)) (opened x y z)
+      go : (x y z : Bool) → relatedTest relation (startOf e) (startOf b) ≡ z → cond x (cond y place (relationStage e b (relationOutcomeOf e b relation))) (Refused (RelationLength (length relation))) ≡ whenPassed (opened x y z) (relationStage e b (relationOutcomeOf e b relation)) (opened x y z)
       go false y z h = refl
       go true true z h = refl
       go true false true h = refl
@@ -93,9 +93,9 @@ module _ (e b relation : List ℕ) where
   opening-fits = go (eqb (length relation) (16 * verticesOf e)) (ltb row (verticesOf e)) (relatedTest relation (startOf e) (startOf b)) refl refl refl
     where
       row : ℕ
-      row = firstRow (strayTest b relation) (verticesOf e) 128
+      row = firstRow (strayBitTest b relation) (verticesOf e) 128
 
-      go : (x y z : Bool) → eqb (length relation) (16 * verticesOf e) ≡ x → ltb row (verticesOf e) ≡ y → relatedTest relation (startOf e) (startOf b) ≡ z → cond x (cond y (Refused (PairNoVertex row (lowest (strayTest b relation row) 0 128))) (cond z Passed (Refused (PairStarts (startOf e) (startOf b))))) (Refused (RelationLength (length relation))) ≡ Passed → RelationFits e b relation × Related relation (startOf e) (startOf b)
+      go : (x y z : Bool) → eqb (length relation) (16 * verticesOf e) ≡ x → ltb row (verticesOf e) ≡ y → relatedTest relation (startOf e) (startOf b) ≡ z → cond x (cond y (Refused (PairNoVertex row (lowest (strayBitTest b relation row) 0 128))) (cond z Passed (Refused (PairStarts (startOf e) (startOf b))))) (Refused (RelationLength (length relation))) ≡ Passed → RelationFits e b relation × Related relation (startOf e) (startOf b)
       go false y z h i j q = absurd (passed-refused q refl)
       go true true z h i j q = absurd (passed-refused q refl)
       go true false true h i j q = let w = eqb-true (length relation) (16 * verticesOf e) h in (fits-of w (strays-found b relation (verticesOf e) w .1 (ltb-false row (verticesOf e) i)), j)
@@ -108,7 +108,7 @@ module _ (e b relation : List ℕ) where
 
     -- a refusal of 40 to 42 is that of 40 to 45
     pub opening-refused : {p : Place} → s ≡ Refused p → s ≡ relationOf e b relation
-    opening-refused q = q ∙ sym (relation-opening ∙ ap (λ (t : Stage). whenPassed t (answered e b (outcomeOf e b relation)) t) (is-opening ∙ q))
+    opening-refused q = q ∙ sym (relation-opening ∙ ap (λ (t : Stage). whenPassed t (relationStage e b (relationOutcomeOf e b relation)) t) (is-opening ∙ q))
 
     -- where they pass, 43 to 45 are left
     pub opening-passes : s ≡ Passed → RelationFits e b relation × Related relation (startOf e) (startOf b)

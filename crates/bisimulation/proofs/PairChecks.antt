@@ -19,7 +19,7 @@ use Rattle.report.specs.declared.Place.{Place}
 use Rattle.report.specs.declared.Place.the-variants.{PairNoVertex}
 use Rattle.report.specs.declared.Stage.{Stage}
 use Rattle.report.specs.declared.Stage.the-variants.{Passed, Refused}
-use Rattle.bisimulation.specs.Answers.{Related, Stray, EndsAgree, Passes, FailsWith, PairAnswer, RowAnswer, CheckedAnswer, StrayAnswer}
+use Rattle.bisimulation.specs.Answers.{Related, StrayBit, EndsAgree, Passes, FailsWith, PairAnswer, RowAnswer, CheckedAnswer, StrayAnswer}
 use Rattle.bisimulation.proofs.RowLaws.{has-related}
 
 -- 43: the test of the ends
@@ -37,28 +37,28 @@ passed-refused e f = let z : _≡_ {A = ℕ} 0 1 = cc in omega arith
 
 -- 41: d has the bits of row u outside the first V columns, and v is its lowest
 module _ (body relation : List ℕ) (u : ℕ) {v : ℕ} {s inside d : Set} (M : Members (Related relation u) s) (I : Members (λ (w : ℕ). (0 ≤ w) × (w < verticesOf body)) inside) (D : Difference s inside d) (F : First (Has d) 0 128 v) where
-  is-stray : (w : ℕ) → Has d w → Stray body relation u w
+  is-stray : (w : ℕ) → Has d w → StrayBit body relation u w
   is-stray w h =
       let (g, n) = D w .0 h in
       (by-cases (decLt w (verticesOf body)) (λ l. absurd (n (I .exactly w (h .below) .1 (omega arith, l)))) (λ l. omega arith), has-related relation u M w .0 g)
 
-  stray-is : (w : ℕ) → Stray body relation u w → Has d w
+  stray-is : (w : ℕ) → StrayBit body relation u w → Has d w
   stray-is w (l, r) = D w .1 (has-related relation u M w .1 r, λ h. omega (arith, I .exactly w (h .below) .0 h .1))
 
   -- a row, and the rows before it
-  pub stray-first : ((a : ℕ) → a < u → (w : ℕ) → ¬ Stray body relation a w) → v < 128 → StrayAnswer body relation (Refused (PairNoVertex u v))
+  pub stray-first : ((a : ℕ) → a < u → (w : ℕ) → ¬ StrayBit body relation a w) → v < 128 → StrayAnswer body relation (Refused (PairNoVertex u v))
   stray-first h l = record {
     passed = λ q. absurd (passed-refused q refl);
     refused = λ p q. (u, v, record { holds = is-stray v (F .holds l); earlier = earlier }, refl);
   }
     where
-      earlier : (a b : ℕ) → Earlier a b u v → ¬ Stray body relation a b
-      earlier a b g s = ⊎-elim (λ k. h a k b s) (λ (k, m). F .before b (omega arith) m (stray-is b (subst (λ (x : ℕ). Stray body relation x b) k s))) g
+      earlier : (a b : ℕ) → Earlier a b u v → ¬ StrayBit body relation a b
+      earlier a b g s = ⊎-elim (λ k. h a k b s) (λ (k, m). F .before b (omega arith) m (stray-is b (subst (λ (x : ℕ). StrayBit body relation x b) k s))) g
 
-  pub stray-none : 128 ≤ v → (w : ℕ) → ¬ Stray body relation u w
+  pub stray-none : 128 ≤ v → (w : ℕ) → ¬ StrayBit body relation u w
   stray-none l w s = let h = stray-is w s in F .before w (omega arith) (omega (arith, h .below)) h
 
-pub stray-passed : {body relation : List ℕ} → ((u v : ℕ) → ¬ Stray body relation u v) → StrayAnswer body relation Passed
+pub stray-passed : {body relation : List ℕ} → ((u v : ℕ) → ¬ StrayBit body relation u v) → StrayAnswer body relation Passed
 stray-passed h = record { passed = λ q. h; refused = λ p q. absurd (passed-refused refl q) }
 
 module _ {expression body relation : List ℕ} {u : ℕ} where

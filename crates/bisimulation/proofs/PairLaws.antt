@@ -23,7 +23,7 @@ use Rattle.bisimulation.specs.Relations.{indexedOf}
 use Rattle.bisimulation.specs.Answers.{Related, Passes}
 use Rattle.bisimulation.specs.Suspects.{Match, MatchedIn}
 use Rattle.bisimulation.specs.Places.{StepPlace}
-use Rattle.bisimulation.specs.Pairs.{Alone, Suspect, Told, Sought}
+use Rattle.bisimulation.specs.Pairs.{Alone, Suspect, StepTables, Sought}
 use Rattle.bisimulation.proofs.RowLaws.{related-column}
 use Rattle.bisimulation.proofs.PlaceLaws.{one-place, key-order}
 use Rattle.bisimulation.proofs.StepLaws.{step-of, at-step, is-matched, is-match}
@@ -79,7 +79,7 @@ met-by into acting body steps i f = ⊎-elim (λ (k, l, h). (k, h .0, h .1)) (λ
         second : On steps k → Dec (On steps k × Match into acting body i k)
         second on = elim (has? (rowOf into (toOf body i)) k) [ yes h ↦ third on h | no h ↦ no (λ g. h (g .1 .0)) ]
 
-module _ {into acting words e relation body begins : List ℕ} (B : Bytes body) (W : WellFormed body) (R : Begins body begins) (T : Told into acting words e relation) (u : ℕ) {v : ℕ} (low : v < 128) where
+module _ {into acting words e relation body begins : List ℕ} (B : Bytes body) (W : WellFormed body) (R : Begins body begins) (T : StepTables into acting words e relation) (u : ℕ) {v : ℕ} (low : v < 128) where
   -- the transitions of v stand from its entry up to the next
   here : (j : ℕ) → j < countOf body → fromOf body j ≡ v → (getD begins v 0 ≤ j) × (j < getD begins (v + 1) 0)
   here = between (R .split v (omega arith)) (R .split (v + 1) (omega arith))

@@ -22,16 +22,16 @@ use Rattle.report.specs.declared.Stage.the-variants.{Passed, Refused}
 use Rattle.chart.specs.Bodies.{verticesOf, startOf}
 use Rattle.chart.specs.Steps.{transitionsOf}
 use Rattle.chart.proofs.Relations.{acts-member}
-use Rattle.bisimulation.specs.Relations.{indexedOf, relatedTest, strayTest, answered, outcomeOf, relationOf}
-use Rattle.bisimulation.specs.Answers.{Related, Stray, RelationFits}
+use Rattle.bisimulation.specs.Relations.{indexedOf, relatedTest, strayBitTest, relationStage, relationOutcomeOf, relationOf}
+use Rattle.bisimulation.specs.Answers.{Related, StrayBit, RelationFits}
 use Rattle.bisimulation.specs.RelationAnswers.{Comes, RelationAnswer, passed, other-length, no-vertex, starts-unrelated, other-end, expression-alone, chart-alone}
 use Rattle.bisimulation.proofs.RowLaws.{related-column, related-row}
 
 -- the answer of 40 to 45, with its place
 pub data Answers (e b relation : List ℕ) : Stage → Type 0 where
   fails-40 : length relation ≢ 16 * verticesOf e → Answers e b relation (Refused (RelationLength (length relation)))
-  fails-41 : {u v : ℕ} → length relation ≡ 16 * verticesOf e → FirstPair (Stray b relation) u v → Answers e b relation (Refused (PairNoVertex u v))
-  fitting : {o : RelationOutcome} → RelationFits e b relation → RelationChecked (indexedOf e) (indexedOf b) (Related relation) o → Answers e b relation (answered e b o)
+  fails-41 : {u v : ℕ} → length relation ≡ 16 * verticesOf e → FirstPair (StrayBit b relation) u v → Answers e b relation (Refused (PairNoVertex u v))
+  fitting : {o : RelationOutcome} → RelationFits e b relation → RelationChecked (indexedOf e) (indexedOf b) (Related relation) o → Answers e b relation (relationStage e b o)
 
 -- THERE IS ONLY ONE ANSWER
 pub one-first : {P : ℕ → ℕ → Type 0} {u v a c : ℕ} → FirstPair P u v → FirstPair P a c → (u ≡ a) × (v ≡ c)
@@ -43,7 +43,7 @@ one-first {P} {u} {v} {a} {c} f g = go (same-or-earlier u v a c)
     go (inr (inr h)) = absurd (f .earlier a c h (g .holds))
 
 module _ {e b relation : List ℕ} where
-  stray-fits : {u v : ℕ} → FirstPair (Stray b relation) u v → ¬ RelationFits e b relation
+  stray-fits : {u v : ℕ} → FirstPair (StrayBit b relation) u v → ¬ RelationFits e b relation
   stray-fits {u} {v} f F = let (l, r) = f .holds in omega (arith, F .inside u v r .1)
 
   pub one-answer : {s t : Stage} → Answers e b relation s → Answers e b relation t → s ≡ t
@@ -55,10 +55,10 @@ module _ {e b relation : List ℕ} where
   one-answer (fails-41 w f) (fitting F c) = absurd (stray-fits f F)
   one-answer (fitting F c) (fails-40 g) = absurd (g (F .whole))
   one-answer (fitting F c) (fails-41 z g) = absurd (stray-fits g F)
-  one-answer (fitting F c) (fitting G d) = ap (answered e b) (one-relation-outcome c d)
+  one-answer (fitting F c) (fitting G d) = ap (relationStage e b) (one-relation-outcome c d)
 
 -- where no bit is stray, each stands for a pair of vertices
-pub fits-of : {e b relation : List ℕ} → length relation ≡ 16 * verticesOf e → ((u v : ℕ) → ¬ Stray b relation u v) → RelationFits e b relation
+pub fits-of : {e b relation : List ℕ} → length relation ≡ 16 * verticesOf e → ((u v : ℕ) → ¬ StrayBit b relation u v) → RelationFits e b relation
 fits-of {e} {b} {relation} w h = record { whole = w; inside = λ u v r. (related-row relation (verticesOf e) u v w r, low u v r) }
   where
     low : (u v : ℕ) → Related relation u v → v < verticesOf b
@@ -69,20 +69,20 @@ fits-of {e} {b} {relation} w h = record { whole = w; inside = λ u v r. (related
         go false e = absurd (h u v (ltb-false v (verticesOf b) e, r))
 
 -- THE TESTS GIVE IT
-decides-stray : (b relation : List ℕ) (u v : ℕ) → Decides (strayTest b relation u v) (Stray b relation u v)
-unfolding strayTest
+decides-stray : (b relation : List ℕ) (u v : ℕ) → Decides (strayBitTest b relation u v) (StrayBit b relation u v)
+unfolding strayBitTest
 decides-stray b relation u v = decides-and (decides-leb (verticesOf b) v) ((λ r. r), (λ r. r))
 
 -- 41 of so many rows
 pub strays-found : (b relation : List ℕ) (rows : ℕ) → length relation ≡ 16 * rows
-    → (firstRow (strayTest b relation) rows 128 < rows
-    → FirstPair (Stray b relation) (firstRow (strayTest b relation) rows 128) (lowest (strayTest b relation (firstRow (strayTest b relation) rows 128)) 0 128))
-    × (rows ≤ firstRow (strayTest b relation) rows 128 → (a c : ℕ) → ¬ Stray b relation a c)
+    → (firstRow (strayBitTest b relation) rows 128 < rows
+    → FirstPair (StrayBit b relation) (firstRow (strayBitTest b relation) rows 128) (lowest (strayBitTest b relation (firstRow (strayBitTest b relation) rows 128)) 0 128))
+    × (rows ≤ firstRow (strayBitTest b relation) rows 128 → (a c : ℕ) → ¬ StrayBit b relation a c)
 strays-found b relation rows w = first-pair (decides-stray b relation) rows 128 (λ a c s. (related-row relation rows a c w (s .1), related-column relation a c (s .1)))
 
 module _ (e b relation : List ℕ) where
-  outcome-checked : RelationFits e b relation → RelationChecked (indexedOf e) (indexedOf b) (Related relation) (outcomeOf e b relation)
-  unfolding outcomeOf
+  outcome-checked : RelationFits e b relation → RelationChecked (indexedOf e) (indexedOf b) (Related relation) (relationOutcomeOf e b relation)
+  unfolding relationOutcomeOf
   outcome-checked F = relation-checked (indexedOf e) (indexedOf b) {t = relatedTest relation} {R = Related relation} (λ u v. ((λ r. r), (λ r. r))) (verticesOf e) (verticesOf b) (F .inside)
 
   pub relation-answers : Answers e b relation (relationOf e b relation)
@@ -90,12 +90,12 @@ module _ (e b relation : List ℕ) where
   relation-answers = go (eqb (length relation) (16 * verticesOf e)) (ltb u (verticesOf e)) (decides-eqb (length relation) (16 * verticesOf e)) refl
     where
       u : ℕ
-      u = firstRow (strayTest b relation) (verticesOf e) 128
+      u = firstRow (strayBitTest b relation) (verticesOf e) 128
 
       v : ℕ
-      v = lowest (strayTest b relation u) 0 128
+      v = lowest (strayBitTest b relation u) 0 128
 
-      go : (x y : Bool) → Decides x (length relation ≡ 16 * verticesOf e) → ltb u (verticesOf e) ≡ y → Answers e b relation (cond x (cond y (Refused (PairNoVertex u v)) (answered e b (outcomeOf e b relation))) (Refused (RelationLength (length relation))))
+      go : (x y : Bool) → Decides x (length relation ≡ 16 * verticesOf e) → ltb u (verticesOf e) ≡ y → Answers e b relation (cond x (cond y (Refused (PairNoVertex u v)) (relationStage e b (relationOutcomeOf e b relation))) (Refused (RelationLength (length relation))))
       go false y d h = fails-40 (not-so d refl)
       go true true d h = fails-41 (d .0 refl) (strays-found b relation (verticesOf e) (d .0 refl) .0 (ltb-true u (verticesOf e) h))
       go true false d h =
@@ -137,13 +137,13 @@ indexed-chart e b R = (
 
 module _ (e b relation : List ℕ) where
   pair-answer : {u v : ℕ} {o : RelationOutcome} → Comes e b relation u v → PairFails (indexedOf e) (indexedOf b) (Related relation) u v o
-      → RelationAnswer e b relation (answered e b o)
+      → RelationAnswer e b relation (relationStage e b o)
   pair-answer c (fails-43 h) = other-end c h
   pair-answer c (fails-44 h l) = expression-alone c h l
   pair-answer c (fails-45 h a l) = chart-alone c h a l
 
   outcome-answer : {o : RelationOutcome} → RelationFits e b relation → RelationChecked (indexedOf e) (indexedOf b) (Related relation) o
-      → RelationAnswer e b relation (answered e b o)
+      → RelationAnswer e b relation (relationStage e b o)
   outcome-answer F (all-pass s p) = passed F (indexed-chart e b (Related relation) .0 (related-iff-bisimulation .0 (all-pass s p)))
   outcome-answer F (fails-42 h) = starts-unrelated F h
   outcome-answer F (fails-pair s r g f) = pair-answer (record { fits = F; starts = s; related = r; earlier = g }) f
@@ -154,7 +154,7 @@ module _ (e b relation : List ℕ) where
   relation-answer (fitting F c) = outcome-answer F c
 
   pair-fails : {u v : ℕ} {o : RelationOutcome} → Comes e b relation u v → PairFails (indexedOf e) (indexedOf b) (Related relation) u v o
-      → Answers e b relation (answered e b o)
+      → Answers e b relation (relationStage e b o)
   pair-fails c f = fitting (c .fits) (fails-pair (c .starts) (c .related) (c .earlier) f)
 
   answer-relation : {s : Stage} → RelationAnswer e b relation s → Answers e b relation s

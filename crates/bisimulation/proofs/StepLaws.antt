@@ -9,9 +9,9 @@ use Rattle.bits.specs.Words.{On}
 use Rattle.chart.specs.Bodies.{countOf, fromOf, actionOf, toOf, WellFormed}
 use Rattle.bisimulation.specs.Answers.{Related}
 use Rattle.bisimulation.specs.Suspects.{Match}
-use Rattle.bisimulation.specs.Pairs.{Told}
+use Rattle.bisimulation.specs.Pairs.{StepTables}
 
-module _ {into acting words e relation : List ℕ} (T : Told into acting words e relation) where
+module _ {into acting words e relation : List ℕ} (T : StepTables into acting words e relation) where
   pub step-of : (u i : ℕ) → i < countOf e → fromOf e i ≡ u → (k : ℕ) × (k < T .m) × (getD (T .keys) k 0 / 256 ≡ actionOf e i) × (getD (T .keys) k 0 % 256 ≡ toOf e i) × On (getD words u 0) k
   step-of u i h f = T .numbered .exactly u (actionOf e i) (toOf e i) .0 (record { at = i; within = h; leaves = f; enters = refl; holds = record { is = refl } })
 
@@ -20,7 +20,7 @@ module _ {into acting words e relation : List ℕ} (T : Told into acting words e
       let a = T .numbered .exactly u (getD (T .keys) k 0 / 256) (getD (T .keys) k 0 % 256) .1 (k, T .numbered .coded .known u k on, refl, refl, on) in
       (a .at, a .within, a .leaves, sym (a .holds .is), sym (a .enters))
 
-module _ {into acting words e relation body : List ℕ} (B : Bytes body) (W : WellFormed body) (T : Told into acting words e relation) where
+module _ {into acting words e relation body : List ℕ} (B : Bytes body) (W : WellFormed body) (T : StepTables into acting words e relation) where
   -- a step that matches a transition of the body has its action and a related target
   matched-step : (j k : ℕ) → j < countOf body → Match into acting body j k → (k < T .m) × (getD (T .keys) k 0 / 256 ≡ actionOf body j) × Related relation (getD (T .keys) k 0 % 256) (toOf body j)
   matched-step j k h (p, q) =

@@ -14,7 +14,7 @@ use borrow.Author.Tests.{eqb-true}
 use Rattle.theory.specs.Relations.{converse}
 use Rattle.bits.specs.declared.sets.Set.{Set}
 use Rattle.bits.specs.Words.{On, With}
-use Rattle.bits.specs.Sets.{Has, Members, Fits}
+use Rattle.bits.specs.Sets.{Has, Members, SetFits}
 use Rattle.bits.specs.Tables.{Table, Gains, Above}
 use Rattle.bits.proofs.Words.{bit-below}
 use Rattle.bits.proofs.Members.{zero-off, low-has, high-has, has-low, has-high}
@@ -46,7 +46,7 @@ same-sets relation a b {s} {t} S T e f w l = (
 )
 
 -- `spread_over`: a set's two words, one after the other
-pub over-both : {a b c : List ℕ} (over s : Set) → Fits over → Gains (λ (w z : ℕ). Above 0 (over .lo) w × Has s z) a b → Gains (λ (w z : ℕ). Above 64 (over .hi) w × Has s z) b c → Gains (λ (w z : ℕ). Has over w × Has s z) a c
+pub over-both : {a b c : List ℕ} (over s : Set) → SetFits over → Gains (λ (w z : ℕ). Above 0 (over .lo) w × Has s z) a b → Gains (λ (w z : ℕ). Above 64 (over .hi) w × Has s z) b c → Gains (λ (w z : ℕ). Has over w × Has s z) a c
 over-both over s F P Q = gains-then P Q (λ w z l. (there w z, back w z))
   where
     there : (w z : ℕ) → (Above 0 (over .lo) w × Has s z) ⊎ (Above 64 (over .hi) w × Has s z) → Has over w × Has s z

@@ -14,15 +14,15 @@ use Rattle.report.specs.declared.Stage.the-variants.{Passed, Refused}
 use Rattle.chart.specs.Bodies.{verticesOf, startOf}
 use Rattle.chart.specs.Checks.{checkOf}
 use Rattle.chart.specs.Numbered.{Numbered}
-use Rattle.bisimulation.specs.Relations.{indexedOf, relatedTest, answered, relationOf}
+use Rattle.bisimulation.specs.Relations.{indexedOf, relatedTest, relationStage, relationOf}
 
 -- expression vertex u is related to chart vertex v
 abbrev pub Related : List ℕ → ℕ → ℕ → Type 0
 Related relation u v = relatedTest relation u v ≡ true
 
 -- 41: a bit for a vertex of V or above
-abbrev pub Stray : List ℕ → List ℕ → ℕ → ℕ → Type 0
-Stray body relation u v = (verticesOf body ≤ v) × Related relation u v
+abbrev pub StrayBit : List ℕ → List ℕ → ℕ → ℕ → Type 0
+StrayBit body relation u v = (verticesOf body ≤ v) × Related relation u v
 
 -- 40 and 41 pass
 pub record RelationFits (expression body relation : List ℕ) : Type 0 where
@@ -35,9 +35,9 @@ EndsAgree p q = (p ≡ 0) ↔ (q ≡ 0)
 
 -- what 41 answers
 pub record StrayAnswer (body relation : List ℕ) (s : Stage) : Type 0 where
-  pub passed : s ≡ Passed → (u v : ℕ) → ¬ Stray body relation u v
+  pub passed : s ≡ Passed → (u v : ℕ) → ¬ StrayBit body relation u v
   pub refused : (p : Place) → s ≡ Refused p
-      → (u v : ℕ) × FirstPair (Stray body relation) u v × (s ≡ Refused (PairNoVertex u v))
+      → (u v : ℕ) × FirstPair (StrayBit body relation) u v × (s ≡ Refused (PairNoVertex u v))
 
 module _ (expression body relation : List ℕ) where
   -- 43 to 45 pass for one pair
@@ -48,7 +48,7 @@ module _ (expression body relation : List ℕ) where
   abbrev pub FailsWith : ℕ → ℕ → Stage → Type 0
   FailsWith u v s = (o : RelationOutcome)
       × PairFails (indexedOf expression) (indexedOf body) (Related relation) u v o
-      × (s ≡ answered expression body o)
+      × (s ≡ relationStage expression body o)
 
   -- what 43 to 45 answer for one pair
   pub record PairAnswer (u v : ℕ) (s : Stage) : Type 0 where
@@ -70,7 +70,7 @@ module _ (expression body relation : List ℕ) where
   abbrev pub CheckedAnswer : Stage → Type 0
   CheckedAnswer s = (o : RelationOutcome)
       × RelationChecked (indexedOf expression) (indexedOf body) (Related relation) o
-      × (s ≡ answered expression body o)
+      × (s ≡ relationStage expression body o)
 
 -- the expression's chart has so many vertices and these numbers of its steps, and 40 to 42 pass
 pub record NumberedChart (keys words : List ℕ) (m vertices : ℕ) (body relation expression : List ℕ) : Type 0 where

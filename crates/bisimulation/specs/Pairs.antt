@@ -27,7 +27,7 @@ abbrev pub Suspect : List ℕ → (n u : ℕ) → Type 0
 Suspect table n u = (v : ℕ) × (v < n) × HasRow table v u
 
 -- the tables are those of the numbers of e's steps, and of a relation
-pub record Told (into acting words e relation : List ℕ) : Type 0 where
+pub record StepTables (into acting words e relation : List ℕ) : Type 0 where
   pub formed : WellFormed e
   pub keys : List ℕ
   pub m : ℕ
@@ -37,14 +37,14 @@ pub record Told (into acting words e relation : List ℕ) : Type 0 where
 
 -- and the table's sets have only related pairs, and each that 43, 44 or 45 refuses
 pub record Sought (into acting words table body e relation : List ℕ) : Type 0 where
-  pub told : Told into acting words e relation
+  pub tables : StepTables into acting words e relation
   pub fits : RelationFits e body relation
   pub given : (u v : ℕ) → v < verticesOf body → HasRow table v u → Related relation u v
   pub others : (u v : ℕ) → Related relation u v → ¬ HasRow table v u → Passes e body relation u v
 
 -- what 43 to 45 answer of every such chart and relation: for a related pair, for a pair, for a row, and for all
-abbrev pub PairTold : (into acting words body : List ℕ) → (u v : ℕ) → Stage → Type 0
-PairTold into acting words body u v s = (e relation : List ℕ) → Told into acting words e relation
+abbrev pub RelatedAnswer : (into acting words body : List ℕ) → (u v : ℕ) → Stage → Type 0
+RelatedAnswer into acting words body u v s = (e relation : List ℕ) → StepTables into acting words e relation
     → Related relation u v → PairAnswer e body relation u v s
 
 abbrev pub PairSought : (into acting words table body : List ℕ) → (u v : ℕ) → Stage → Type 0

@@ -15,7 +15,7 @@ use Rattle.report.specs.declared.Stage.the-variants.{Passed, Refused}
 use Rattle.chart.specs.Bodies.{verticesOf, startOf}
 use Rattle.chart.specs.Steps.{transitionsOf}
 use Rattle.bisimulation.specs.Relations.{indexedOf}
-use Rattle.bisimulation.specs.Answers.{Related, Stray, RelationFits, EndsAgree, Passes}
+use Rattle.bisimulation.specs.Answers.{Related, StrayBit, RelationFits, EndsAgree, Passes}
 
 -- 40 to 42 pass, (p, q) is related, and every earlier related pair passes
 pub record Comes (expression body relation : List ℕ) (p q : ℕ) : Type 0 where
@@ -43,7 +43,7 @@ module _ (expression body relation : List ℕ) where
     other-length : length relation ≢ 16 * verticesOf expression
         → RelationAnswer (Refused (RelationLength (length relation)))
     -- 41
-    no-vertex : {p q : ℕ} → length relation ≡ 16 * verticesOf expression → FirstPair (Stray body relation) p q
+    no-vertex : {p q : ℕ} → length relation ≡ 16 * verticesOf expression → FirstPair (StrayBit body relation) p q
         → RelationAnswer (Refused (PairNoVertex p q))
     -- 42
     starts-unrelated : RelationFits expression body relation → ¬ Related relation (startOf expression) (startOf body)

@@ -19,7 +19,8 @@ ghost use Rattle.bits.specs.First.{First};
 ghost use Rattle.bits.specs.Sets.{Members};
 ghost use Rattle.chart.specs.Bodies.{verticesOf, countOf};
 ghost use Rattle.bisimulation.specs.Suspects.{Tabled, MatchedIn};
-ghost use Rattle.bisimulation.specs.Pairs.{Ready, Alone, Suspect, PairTold, PairSought, RowSought, AllSought};
+ghost use Rattle.bisimulation.specs.Pairs.{Ready, Alone, Suspect};
+ghost use Rattle.bisimulation.specs.Pairs.{RelatedAnswer, PairSought, RowSought, AllSought};
 
 // The steps that match one of the transitions from a up to b.
 fn matched(into: &[u64; 256], acting: &[u64; 256], body: &[u8], a: usize, b: usize) -> u64
@@ -69,7 +70,7 @@ fn check_pair(
     v: usize,
 ) -> Stage
     requires { ⌜ Ready (now into) (now acting) (now words) (now body) (now begins) × (u < 128) × (v < 128) ⌝ }
-    ensures { λ r. ⌜ PairTold (now (into .entry)) (now (acting .entry)) (now (words .entry)) (now (body .entry))
+    ensures { λ r. ⌜ RelatedAnswer (now (into .entry)) (now (acting .entry)) (now (words .entry)) (now (body .entry))
         u v r ⌝ }
 {
     if (u == 0) != (v == 0) {

@@ -13,7 +13,7 @@ use Rattle.bits.specs.declared.sets.Set.{Set}
 use Rattle.bits.specs.Words.{On, LowestOn, HighestOn, With, Without}
 use Rattle.bits.specs.First.{First, Split}
 use Rattle.bits.specs.Packed.{Packed}
-use Rattle.bits.specs.Sets.{Has, Members, Fits, Last}
+use Rattle.bits.specs.Sets.{Has, Members, SetFits, Last}
 use Rattle.bits.proofs.Words.{bit-below}
 use Rattle.bits.proofs.Members.{same-word, one-set}
 
@@ -56,7 +56,7 @@ packed-same {n = n} {r} {t} P Q = same-word r t (λ j. (
 ))
 
 -- sets by their members
-pub members-one : {P : ℕ → Type 0} {s t : Set} → Fits s → Fits t → Members P s → Members P t → s ≡ t
+pub members-one : {P : ℕ → Type 0} {s t : Set} → SetFits s → SetFits t → Members P s → Members P t → s ≡ t
 members-one {s = s} {t} F G M N = one-set s t F G (λ w. (
   (λ h. N .exactly w (h .below) .1 (M .exactly w (h .below) .0 h)),
   (λ h. M .exactly w (h .below) .1 (N .exactly w (h .below) .0 h)),

@@ -12,7 +12,7 @@ use lib.ListN.{length, getD, set, length-set, replicate, length-replicate}
 use lib.Seq.{getD-set-same, getD-set-other, ext-getD}
 use Rattle.bits.specs.declared.sets.Set.{Set}
 use Rattle.bits.specs.Words.{On, With, Without}
-use Rattle.bits.specs.Sets.{Has, emptySet, Members, Union, Fits}
+use Rattle.bits.specs.Sets.{Has, emptySet, Members, Union, SetFits}
 use Rattle.bits.specs.Tables.{rowOf, HasRow, putRow, Words, Table, Gains, When, Above, InSome}
 use Rattle.bits.proofs.Members.{⊎-map, zero-off, none, words-zero, one-set}
 
@@ -257,7 +257,7 @@ module _ {a : List ℕ} {x rest : ℕ} {s : Set} (S : Uniting a x rest s) where
   unite-all e = record { exactly = λ w m. (S .only w, λ (i, h, k). ⊎-elim (λ g. g) (λ o. absurd (zero-off i (rw e at o))) (S .come w i h k)) }
 
 -- ONE TABLE: what a table has determines its words
-row-fits : (a : List ℕ) (x : ℕ) → Words a → Fits (rowOf a x)
+row-fits : (a : List ℕ) (x : ℕ) → Words a → SetFits (rowOf a x)
 unfolding rowOf
 row-fits a x W = (W (2 * x), W (2 * x + 1))
 

@@ -14,7 +14,7 @@ use Rattle.bits.specs.declared.sets.Set.{Set}
 use Rattle.bits.specs.Words.{On, LowestOn, HighestOn, With}
 use Rattle.bits.specs.First.{First}
 use Rattle.bits.specs.Packed.{Packed}
-use Rattle.bits.specs.Sets.{halfOf, Has, emptySet, Empty, Members, Union, Intersection, Difference, Last, Fits, sizeOf}
+use Rattle.bits.specs.Sets.{halfOf, Has, emptySet, Empty, Members, Union, Intersection, Difference, Last, SetFits, sizeOf}
 use Rattle.bits.proofs.Words.{no-bit, subset-le, bit-below}
 use Rattle.bits.proofs.Counts.{bits-lt, bits-few}
 
@@ -101,13 +101,13 @@ words-zero s e f w h = off (ltb w 64) (h .on)
     off true o = zero-off (w % 64) (subst (λ (x : ℕ). On x (w % 64)) e o)
     off false o = zero-off (w % 64) (subst (λ (x : ℕ). On x (w % 64)) f o)
 
-pub zero-words : (s : Set) → Fits s → Empty s → (s .lo ≡ 0) × (s .hi ≡ 0)
+pub zero-words : (s : Set) → SetFits s → Empty s → (s .lo ≡ 0) × (s .hi ≡ 0)
 zero-words s F f = (
   no-bit 64 (s .lo) (F .0) (λ k i on. f k (low-has s k i on)),
   no-bit 64 (s .hi) (F .1) (λ k i on. f (64 + k) (high-has s k i on)),
 )
 
-pub empty-test : (s : Set) → Fits s → ((eqb (s .lo) 0 && eqb (s .hi) 0) ≡ true) ↔ Empty s
+pub empty-test : (s : Set) → SetFits s → ((eqb (s .lo) 0 && eqb (s .hi) 0) ≡ true) ↔ Empty s
 empty-test s F = (to (eqb (s .lo) 0) (eqb (s .hi) 0) refl refl, λ f. let z = zero-words s F f in rw (eq-eqb (s .lo) 0 (z .0), eq-eqb (s .hi) 0 (z .1)) refl)
   where
     to : (p q : Bool) → eqb (s .lo) 0 ≡ p → eqb (s .hi) 0 ≡ q → (p && q) ≡ true → Empty s
@@ -165,7 +165,7 @@ same-word x y f = let a = subset-le x y (λ k. f k .0) in let b = subset-le y x 
 same : (s t : Set) → s .lo ≡ t .lo → s .hi ≡ t .hi → s ≡ t
 same s t e f = ap (λ (x : ℕ). record { lo = x; hi = s .hi }) e ∙ ap (λ (x : ℕ). record { lo = t .lo; hi = x }) f
 
-pub one-set : (s t : Set) → Fits s → Fits t → ((w : ℕ) → Has s w ↔ Has t w) → s ≡ t
+pub one-set : (s t : Set) → SetFits s → SetFits t → ((w : ℕ) → Has s w ↔ Has t w) → s ≡ t
 one-set s t F G f = same s t (same-word (s .lo) (t .lo) low) (same-word (s .hi) (t .hi) high)
   where
     low : (k : ℕ) → On (s .lo) k ↔ On (t .lo) k

@@ -42,8 +42,8 @@ pub record Last (s : Set) (r : ℕ) : Type 0 where
   pub above : (w : ℕ) → r < w → ¬ Has s w
 
 -- its words have 64 bits, as those of every set that runs have
-abbrev pub Fits : Set → Type 0
-Fits s = (s .lo < 2 ^ 64) × (s .hi < 2 ^ 64)
+abbrev pub SetFits : Set → Type 0
+SetFits s = (s .lo < 2 ^ 64) × (s .hi < 2 ^ 64)
 
 -- how many numbers the set has
 abbrev pub sizeOf : Set → ℕ

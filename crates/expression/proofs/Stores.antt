@@ -140,7 +140,7 @@ pub record Writing (a : List ℕ) (at : ℕ) (todo a₀ : List ℕ) (at₀ : ℕ
   pub fits : at + length todo ≤ length a
 
 -- what is to do is xs first, and then ys
-pub record Split (todo xs ys : List ℕ) : Type 0 where
+pub record TodoSplit (todo xs ys : List ℕ) : Type 0 where
   pub is : todo ≡ xs ++ ys
 
 module _ (a : List ℕ) (at : ℕ) (todo : List ℕ) where
@@ -154,7 +154,7 @@ module _ (a : List ℕ) (at : ℕ) (todo : List ℕ) where
     pub writing-long : length a ≡ length a₀
     writing-long = sym (length-sets a at todo) ∙ ap length (w .is) ∙ length-sets a₀ at₀ bytes
 
-    module _ (xs ys : List ℕ) (split : Split todo xs ys) where
+    module _ (xs ys : List ℕ) (split : TodoSplit todo xs ys) where
       sum : at + (length xs + length ys) ≡ at + length todo
       sum = let l = length-append xs ys in let d = ap length (split .is) in omega arith
 
@@ -179,7 +179,7 @@ module _ (keys : List ℕ) where
   fits-rest x i y f W = record { each = λ j on. f .each j (W .exactly j .0 on .0) }
 
   module _ (k : ℕ) where
-    pub word-next : (x i y : ℕ) → LowestOn x i → Without x i y → Split (flat (wordTransitions keys k x)) (flat (transitionOf keys k i ∷ [])) (flat (wordTransitions keys k y))
+    pub word-next : (x i y : ℕ) → LowestOn x i → Without x i y → TodoSplit (flat (wordTransitions keys k x)) (flat (transitionOf keys k i ∷ [])) (flat (wordTransitions keys k y))
     unfolding wordTransitions
     word-next x i y L W = record { is = rw (bits-next x i y L W) (flat-append (transitionOf keys k i ∷ []) (map (transitionOf keys k) (bitsOf y 64))) }
 
@@ -207,7 +207,7 @@ module _ (words : List ℕ) where
   count-end k n t h = let d : n - k ≡ 0 = omega arith in rw d (omega arith)
 
   module _ (keys : List ℕ) where
-    pub listing-next : (k n : ℕ) → k < n → Split (flat (listing keys words k (n - k))) (flat (wordTransitions keys k (getD words (k + 1) 0))) (flat (listing keys words (k + 1) (n - (k + 1))))
+    pub listing-next : (k n : ℕ) → k < n → TodoSplit (flat (listing keys words k (n - k))) (flat (wordTransitions keys k (getD words (k + 1) 0))) (flat (listing keys words (k + 1) (n - (k + 1))))
     unfolding listing
     listing-next k n h =
         let d : n - k ≡ suc (n - (k + 1)) = omega arith in

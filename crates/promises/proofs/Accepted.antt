@@ -20,6 +20,7 @@ use Rattle.expression.proofs.Chart.{body-vertices, body-start, body-transitions
 use Rattle.witness.specs.Labellings.{labelledOf, loopsOf}
 use Rattle.witness.proofs.Labellings.{labelled-iff-witness, labelled-number, labelled-loops, loops-number}
 use Rattle.bisimulation.specs.Relations.{relationOf}
+use Rattle.bisimulation.specs.Answers.{Related}
 use Rattle.bisimulation.proofs.Relations.{relation-iff-bisimulation}
 use Rattle.bits.specs.Packed.{twoAt}
 use Rattle.verdict.specs.Files.{fileOf, offsetOf, bodyAt, Whole}
@@ -27,7 +28,7 @@ use Rattle.verdict.specs.Verdicts.{nodesIn, chartIn, labelsIn, relationIn, verd
 use Rattle.verdict.proofs.Files.{records-iff, records-whole}
 use Rattle.verdict.proofs.Layouts.{whole-layout, layout-whole}
 use Rattle.verdict.proofs.Verdicts.{accepted-iff}
-use Rattle.promises.specs.Demand2.{chartSystem, Related}
+use Rattle.promises.specs.Demand2.{chartSystem}
 use Rattle.promises.specs.Accepted.{expressionSystem, Holds}
 
 -- the written body's chart is the expression's

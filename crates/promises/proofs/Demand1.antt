@@ -27,7 +27,7 @@ use Rattle.chart.specs.Checks as chart
 use Rattle.chart.proofs.Checks.{check-passed, check-20, check-21}
 use Rattle.chart.proofs.Refusals.{refused-places}
 use Rattle.expression.specs.Table as nodes
-use Rattle.expression.specs.Table.{Checked, passed, ill-sized, malformed-at, misused-at}
+use Rattle.expression.specs.Table.{NodesChecked, passed, ill-sized, malformed-at, misused-at}
 use Rattle.expression.specs.Body.{bodyOf, writtenAfter, writtenOf}
 use Rattle.expression.proofs.Table.{checked, checked-is, passed→well-formed, well-formed→passed}
 use Rattle.expression.proofs.Chart.{body-vertices, body-start}
@@ -181,7 +181,7 @@ module _ (f : List ℕ) (bytes : Bytes f) where
   records-say (cut-body k h b c d g) = says-2 h b (inr (c, d, g))
   records-say (bytes-after b h) = says-4 b h
 
-  nodes-say : {p : Place} → Whole f → Checked (nodesIn f) (stage.Refused p) → SentenceFor f (placeNumbers p)
+  nodes-say : {p : Place} → Whole f → NodesChecked (nodesIn f) (stage.Refused p) → SentenceFor f (placeNumbers p)
   nodes-say w (ill-sized h) = says-10 w h
   nodes-say w (malformed-at p z h e low) = says-11 w (first-malformed (nodesIn f) z h e low)
   nodes-say w (misused-at p z g h e low) = says-12 w (first-misused (nodesIn f) z g h e low)
@@ -211,7 +211,7 @@ module _ (f : List ℕ) (bytes : Bytes f) where
 
   fails-say : {p : Place} → Fails f p → SentenceFor f (placeNumbers p)
   fails-say (records-fail e) = records-say (subst (RecordsChecked f) e (records-checked f))
-  fails-say (nodes-fail a e) = nodes-say (records-iff f .0 a) (subst (Checked (nodesIn f)) e (checked (nodesIn f)))
+  fails-say (nodes-fail a e) = nodes-say (records-iff f .0 a) (subst (NodesChecked (nodesIn f)) e (checked (nodesIn f)))
   fails-say (chart-fails a b e) = chart-say (nodes-pass a b) e
   fails-say (labels-fail a b c e) = labels-say (chart-passes (nodes-pass a b) c) (labelled-says (chartIn f) (labelsIn f) c labels-bytes _ .0 e)
   fails-say (relation-fails a b c d e) =
@@ -267,7 +267,7 @@ module _ (s : List ℕ) (lent : ℕ) where
       fits w true e = written-54 w (ltb-true _ _ e)
       fits w false e = written-0 w (ltb-false _ _ e)
 
-      go : (x : Stage) → Checked s x → ChartSentenceFor s lent (writtenNumbers (writtenAfter x (length (bodyOf s)) lent))
+      go : (x : Stage) → NodesChecked s x → ChartSentenceFor s lent (writtenNumbers (writtenAfter x (length (bodyOf s)) lent))
       go _ (passed w) = fits w (ltb lent (length (bodyOf s))) refl
       go _ (ill-sized h) = written-10 h
       go _ (malformed-at p z h e low) = written-11 (first-malformed s z h e low)

@@ -19,10 +19,10 @@ use Rattle.expression.specs.Table as nodes
 use Rattle.expression.specs.Body.{bodyOf}
 use Rattle.witness.specs.LabellingAnswers as labelling
 use Rattle.bisimulation.specs.Relations.{indexedOf}
-use Rattle.bisimulation.specs.Answers.{Related, Stray, Fits, EndsAgree}
+use Rattle.bisimulation.specs.Answers.{Related, StrayBit, RelationFits, EndsAgree}
 use Rattle.bisimulation.specs.RelationAnswers.{Comes}
 use Rattle.bits.specs.Packed.{twoAt}
-use Rattle.verdict.specs.Files.{endAt, offsetOf, Whole, Before}
+use Rattle.verdict.specs.Files.{endAt, offsetOf, Whole, RecordsBefore}
 use Rattle.verdict.specs.Verdicts.{nodesIn, chartIn, labelsIn, relationIn}
 use Rattle.promises.specs.Accepted.{Holds}
 
@@ -82,8 +82,8 @@ pub record LabelsPass (f : List ℕ) : Type 0 where
 abbrev pub AtLoop : List ℕ → ℕ → ℕ → Type 0
 AtLoop f v l = ChartPasses f × labelling.FirstLoop (chartIn f) (labelsIn f) v l
 
-abbrev pub InBody : List ℕ → ℕ → ℕ → ℕ → Type 0
-InBody f v l w = labelling.InBody (chartIn f) (labelsIn f) v l w
+abbrev pub InBodyIn : List ℕ → ℕ → ℕ → ℕ → Type 0
+InBodyIn f v l w = labelling.InBody (chartIn f) (labelsIn f) v l w
 
 -- THE PAIRS, of a vertex of the expression's chart and one of the file's
 abbrev pub expressionIn : List ℕ → List ℕ
@@ -91,7 +91,7 @@ expressionIn f = bodyOf (nodesIn f)
 
 -- 40 and 41 pass; the checks come to the pair (p, q): 42 passes too, it is related, and every earlier pair passes
 abbrev pub PairsFit : List ℕ → Type 0
-PairsFit f = LabelsPass f × Fits (expressionIn f) (chartIn f) (relationIn f)
+PairsFit f = LabelsPass f × RelationFits (expressionIn f) (chartIn f) (relationIn f)
 
 abbrev pub AtPair : List ℕ → ℕ → ℕ → Type 0
 AtPair f p q = LabelsPass f × Comes (expressionIn f) (chartIn f) (relationIn f) p q
@@ -127,11 +127,11 @@ pub data Sentence (f : List ℕ) : (n p q r : ℕ) → Type 0 where
   -- the transfer: the file is too long
   says-1 : 43536 < length f → Sentence f 1 0 0 0
   -- header or body incomplete; the record
-  says-2 : {k : ℕ} → k < 4 → Before f k → Incomplete f k → Sentence f 2 (suc k) 0 0
+  says-2 : {k : ℕ} → k < 4 → RecordsBefore f k → Incomplete f k → Sentence f 2 (suc k) 0 0
   -- wrong kind; the record and the kind found
-  says-3 : {k found : ℕ} → k < 4 → Before f k → WrongKind f k found → Sentence f 3 (suc k) found 0
+  says-3 : {k found : ℕ} → k < 4 → RecordsBefore f k → WrongKind f k found → Sentence f 3 (suc k) found 0
   -- bytes after record four; their offset
-  says-4 : Before f 4 → offsetOf f 4 < length f → Sentence f 4 (offsetOf f 4) 0 0
+  says-4 : RecordsBefore f 4 → offsetOf f 4 < length f → Sentence f 4 (offsetOf f 4) 0 0
   -- the sequence's author: not 1 to 127 nodes of four bytes; the length
   says-10 : Whole f → ¬ nodes.Sized (nodesIn f) → Sentence f 10 (length (nodesIn f)) 0 0
   -- malformed node; the lowest
@@ -150,16 +150,16 @@ pub data Sentence (f : List ℕ) : (n p q r : ℕ) → Type 0 where
   -- vertex on a branch cycle, all being reached; the lowest
   says-32 : {p : ℕ} → OneLabelEach f → ConnectedIn f → Least (OnBranchCycle (stepsIn f)) p → Sentence f 32 p 0 0
   -- then by vertex and level: no way back
-  says-33 : {v l : ℕ} → AtLoop f v l → ¬ InBody f v l v → Sentence f 33 v l 0
+  says-33 : {v l : ℕ} → AtLoop f v l → ¬ InBodyIn f v l v → Sentence f 33 v l 0
   -- the end in the body
-  says-34 : {v l : ℕ} → AtLoop f v l → InBody f v l v → InBody f v l 0 → Sentence f 34 v l 0
+  says-34 : {v l : ℕ} → AtLoop f v l → InBodyIn f v l v → InBodyIn f v l 0 → Sentence f 34 v l 0
   -- entry of equal or higher level at a body vertex r other than v; the lowest
-  says-35 : {v l r : ℕ} → AtLoop f v l → InBody f v l v → ¬ InBody f v l 0 → Least (NotLower (stepsIn f) v l) r
+  says-35 : {v l r : ℕ} → AtLoop f v l → InBodyIn f v l v → ¬ InBodyIn f v l 0 → Least (NotLower (stepsIn f) v l) r
       → Sentence f 35 v l r
   -- the relation's author: not N + 1 rows of 16 bytes; the length
   says-40 : LabelsPass f → ¬ RowsFit f → Sentence f 40 (length (relationIn f)) 0 0
   -- bit for a vertex of V or above; the first, by row and then by column
-  says-41 : {p q : ℕ} → LabelsPass f → RowsFit f → FirstPair (Stray (chartIn f) (relationIn f)) p q → Sentence f 41 p q 0
+  says-41 : {p q : ℕ} → LabelsPass f → RowsFit f → FirstPair (StrayBit (chartIn f) (relationIn f)) p q → Sentence f 41 p q 0
   -- starts unrelated; row N and the start
   says-42 : PairsFit f → ¬ RelatedIn f (nodes.count (nodesIn f)) (startOf (chartIn f))
       → Sentence f 42 (nodes.count (nodesIn f)) (startOf (chartIn f)) 0

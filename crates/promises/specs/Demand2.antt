@@ -2,7 +2,6 @@
 -- exactly when it is a layered loop witness of a connected chart, a relation exactly when it is a bisimulation."
 use mathlib.Core.Path.{_≡_}
 use mathlib.Core.Logic.{_↔_}
-use mathlib.Core.Bool.{true}
 use mathlib.Core.List.{List, _++_, List·Memᴰ}
 use Prim.Native.Nat.{ℕ, suc, _*_, _<_}
 use lib.ListN.{length, drop}
@@ -21,7 +20,8 @@ use Rattle.chart.specs.Steps.{transitionsOf, StepsOf}
 use Rattle.expression.specs.Table as nodes
 use Rattle.expression.specs.Body.{writtenOf, bufferOf}
 use Rattle.witness.specs.Labellings.{labelledOf}
-use Rattle.bisimulation.specs.Relations.{relatedTest, relationOf}
+use Rattle.bisimulation.specs.Relations.{relationOf}
+use Rattle.bisimulation.specs.Answers.{Related}
 
 -- THE EXPRESSION'S CHART. What the vertex of node k stands for
 abbrev pub residualOf : List ℕ → ℕ → Expr
@@ -54,9 +54,6 @@ LabellingPasses b labels = ((n : ℕ) × (labelledOf b labels ≡ labelled.Passe
 -- RELATIONS, between two chart bodies
 abbrev pub chartSystem : List ℕ → System
 chartSystem b = transitions.chart (startOf b) (transitionsOf b)
-
-abbrev pub Related : List ℕ → ℕ → ℕ → Type 0
-Related relation u v = relatedTest relation u v ≡ true
 
 abbrev pub RelationPasses : List ℕ → List ℕ → List ℕ → Type 0
 RelationPasses e b relation = (relationOf e b relation ≡ stage.Passed)

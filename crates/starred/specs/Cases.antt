@@ -48,8 +48,8 @@ unfoldable pub nodesSum : List ℕ
 nodesSum = 0x01 ∷ 0x07 ∷ 0x00 ∷ 0x00 ∷ 0x01 ∷ 0x07 ∷ 0x00 ∷ 0x00 ∷ 0x02 ∷ 0x00 ∷ 0x00 ∷ 0x01 ∷ []
 
 -- a row of a relation whose first byte is given
-abbrev pub row : ℕ → List ℕ
-row b = b ∷ replicate 15 0x00
+abbrev pub relationRow : ℕ → List ℕ
+relationRow b = b ∷ replicate 15 0x00
 
 -- G with these nodes, labels and first and last rows of its relation
 unfoldable pub fileG : List ℕ → List ℕ → ℕ → ℕ → List ℕ
@@ -57,8 +57,8 @@ fileG nodes labelling first last =
     (0x0C ∷ 0x00 ∷ 0x01 ∷ 0x00 ∷ nodes)
     ++ ((0x0C ∷ 0x00 ∷ 0x02 ∷ 0x00 ∷ 0x02 ∷ 0x01 ∷ 0x02 ∷ 0x00 ∷ 0x01 ∷ 0x01 ∷ 0x01 ∷ 0x00 ∷ 0x01 ∷ 0x02 ∷ 0x00 ∷ 0x00 ∷ [])
     ++ ((0x02 ∷ 0x00 ∷ 0x03 ∷ 0x00 ∷ labelling)
-    ++ ((0x40 ∷ 0x00 ∷ 0x04 ∷ 0x00 ∷ row first)
-    ++ (row 0x00 ++ (row 0x00 ++ row last)))))
+    ++ ((0x40 ∷ 0x00 ∷ 0x04 ∷ 0x00 ∷ relationRow first)
+    ++ (relationRow 0x00 ++ (relationRow 0x00 ++ relationRow last)))))
 
 -- V 3, start 1, (1,1,2) (1,3,0) (2,1,2) (2,2,1)
 unfoldable pub nested : List ℕ

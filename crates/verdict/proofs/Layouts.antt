@@ -8,7 +8,7 @@ use lib.ListN.{length, getD, take, drop, length-append, length-drop, take-append
 use lib.Seq.{drop-cons, drop-drop, drop-at, take-at, length-take-le, getD-append-add, getD-at, drop-length}
 use Rattle.bits.specs.Bits.{Bytes}
 use Rattle.bits.specs.Packed.{twoAt}
-use Rattle.verdict.specs.Files.{twoBytes, recordOf, fileOf, endAt, offsetOf, bodyAt, Fits, Whole}
+use Rattle.verdict.specs.Files.{twoBytes, recordOf, fileOf, endAt, offsetOf, bodyAt, RecordFits, Whole}
 
 -- a number of two bytes is its two bytes
 two-bytes : (x y : ℕ) → x < 256 → twoBytes (x + 256 * y) ≡ x ∷ y ∷ []
@@ -26,7 +26,7 @@ module _ (f : List ℕ) (bytes : Bytes f) where
       let b : drop (at + 1) f ≡ getD f (at + 1) 0 ∷ drop (at + 2) f = rw two (drop-cons f (at + 1) 0 (omega arith)) in
       a ∙ ap (λ (l : List ℕ). getD f at 0 ∷ l) b ∙ ap (λ (l : List ℕ). l ++ drop (at + 2) f) (sym (two-bytes (getD f at 0) (getD f (at + 1) 0) (bytes at)))
 
-  record-there : (kind at : ℕ) → Fits f kind at → drop at f ≡ recordOf kind (take (twoAt f at) (drop (at + 4) f)) ++ drop (endAt f at) f
+  record-there : (kind at : ℕ) → RecordFits f kind at → drop at f ≡ recordOf kind (take (twoAt f at) (drop (at + 4) f)) ++ drop (endAt f at) f
   record-there kind at s =
       let n = twoAt f at in
       let body = take n (drop (at + 4) f) in
@@ -83,7 +83,7 @@ module _ (f p x q : List ℕ) (kind at : ℕ) (is : f ≡ p ++ (recordOf kind x 
   end-there : endAt f at ≡ length (p ++ recordOf kind x)
   end-there = let a = length-there in let b = length-append p (recordOf kind x) in omega arith
 
-  fits-there : Fits f kind at
+  fits-there : RecordFits f kind at
   fits-there =
       let l : length f ≡ length (p ++ recordOf kind x) + length q = ap length (is ∙ sym (append-assoc p (recordOf kind x) q)) ∙ length-append (p ++ recordOf kind x) q in
       let g : endAt f at ≤ length f = omega (arith, end-there) in
@@ -91,7 +91,7 @@ module _ (f p x q : List ℕ) (kind at : ℕ) (is : f ≡ p ++ (recordOf kind x 
 
 -- x is the body of record k, from 0, where p is all before it
 record Placed (f : List ℕ) (k : ℕ) (p x : List ℕ) : Type 0 where
-  fits : Fits f (suc k) (offsetOf f k)
+  fits : RecordFits f (suc k) (offsetOf f k)
   body-is : bodyAt f k ≡ x
   next : length (p ++ recordOf (suc k) x) ≡ offsetOf f (suc k)
 
@@ -129,7 +129,7 @@ layout-whole a b c d short =
       D .body-is,
     )
   where
-    each-of : (f : List ℕ) → Fits f 1 (offsetOf f 0) → Fits f 2 (offsetOf f 1) → Fits f 3 (offsetOf f 2) → Fits f 4 (offsetOf f 3) → (k : ℕ) → k < 4 → Fits f (suc k) (offsetOf f k)
+    each-of : (f : List ℕ) → RecordFits f 1 (offsetOf f 0) → RecordFits f 2 (offsetOf f 1) → RecordFits f 3 (offsetOf f 2) → RecordFits f 4 (offsetOf f 3) → (k : ℕ) → k < 4 → RecordFits f (suc k) (offsetOf f k)
     each-of f a b c d zero h = a
     each-of f a b c d (suc zero) h = b
     each-of f a b c d (suc (suc zero)) h = c

@@ -56,7 +56,7 @@ unfoldable pub bodyAt : List ℕ → ℕ → List ℕ
 bodyAt f k = take (twoAt f (offsetOf f k)) (drop (offsetOf f k + 4) f)
 
 -- what the refusals 2 and 3 ask of a record at an offset
-pub record Fits (f : List ℕ) (kind at : ℕ) : Type 0 where
+pub record RecordFits (f : List ℕ) (kind at : ℕ) : Type 0 where
   pub header : at + 4 ≤ length f
   pub is-kind : twoAt f (at + 2) ≡ kind
   pub body : endAt f at ≤ length f
@@ -64,20 +64,20 @@ pub record Fits (f : List ℕ) (kind at : ℕ) : Type 0 where
 -- a file of four records of kinds 1 to 4, nothing after
 pub record Whole (f : List ℕ) : Type 0 where
   pub short : length f ≤ 43536
-  pub each : (k : ℕ) → k < 4 → Fits f (suc k) (offsetOf f k)
+  pub each : (k : ℕ) → k < 4 → RecordFits f (suc k) (offsetOf f k)
   pub nothing-after : offsetOf f 4 ≡ length f
 
 -- 1 does not refuse, and every record before record k, from 0, fits
-abbrev pub Before : List ℕ → ℕ → Type 0
-Before f k = (length f ≤ 43536) × ((j : ℕ) → j < k → Fits f (suc j) (offsetOf f j))
+abbrev pub RecordsBefore : List ℕ → ℕ → Type 0
+RecordsBefore f k = (length f ≤ 43536) × ((j : ℕ) → j < k → RecordFits f (suc j) (offsetOf f j))
 
 -- THE REFUSALS 1 TO 4, by cases: where a record is refused, those before it fit
 pub data RecordsChecked (f : List ℕ) : Stage → Type 0 where
   too-long : 43536 < length f → RecordsChecked f (Refused File)
-  cut-header : (k : ℕ) → k < 4 → Before f k → length f < offsetOf f k + 4 → RecordsChecked f (Refused (Record (suc k)))
-  other-kind : (k : ℕ) → k < 4 → Before f k → offsetOf f k + 4 ≤ length f
+  cut-header : (k : ℕ) → k < 4 → RecordsBefore f k → length f < offsetOf f k + 4 → RecordsChecked f (Refused (Record (suc k)))
+  other-kind : (k : ℕ) → k < 4 → RecordsBefore f k → offsetOf f k + 4 ≤ length f
       → twoAt f (offsetOf f k + 2) ≢ suc k → RecordsChecked f (Refused (RecordKind (suc k) (twoAt f (offsetOf f k + 2))))
-  cut-body : (k : ℕ) → k < 4 → Before f k → offsetOf f k + 4 ≤ length f
+  cut-body : (k : ℕ) → k < 4 → RecordsBefore f k → offsetOf f k + 4 ≤ length f
       → twoAt f (offsetOf f k + 2) ≡ suc k → length f < endAt f (offsetOf f k) → RecordsChecked f (Refused (Record (suc k)))
-  bytes-after : Before f 4 → offsetOf f 4 < length f → RecordsChecked f (Refused (FileOffset (offsetOf f 4)))
+  bytes-after : RecordsBefore f 4 → offsetOf f 4 < length f → RecordsChecked f (Refused (FileOffset (offsetOf f 4)))
   whole : Whole f → RecordsChecked f Passed

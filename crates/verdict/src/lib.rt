@@ -80,7 +80,7 @@ fn body(file: &[u8], k: usize) -> &[u8]
 }
 
 // The refusals 43 to 45, against the expression's chart, where 40 to 42 pass.
-fn check_pairs(nodes: &[u8], vertices: usize, chart: &[u8], relation: &[u8]) -> Stage
+fn check_numbered_pairs(nodes: &[u8], vertices: usize, chart: &[u8], relation: &[u8]) -> Stage
     requires { ⌜ ComeToPairs (now nodes) vertices (now chart) (now relation) ⌝ }
     ensures { λ r. ⌜ r ≡ relationOf (bodyOf (now (nodes .entry))) (now (chart .entry)) (now (relation .entry)) ⌝ }
 {
@@ -100,7 +100,7 @@ fn check_relation(nodes: &[u8], chart: &[u8], relation: &[u8]) -> Stage
     let Stage::Passed = stage else {
         return stage;
     };
-    check_pairs(nodes, n + 1, chart, relation)
+    check_numbered_pairs(nodes, n + 1, chart, relation)
 }
 
 // A stage's refusal as the verdict's.

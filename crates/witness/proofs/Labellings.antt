@@ -29,7 +29,7 @@ use Rattle.chart.proofs.Checks.{well-formed}
 use Rattle.chart.proofs.Relations.{steps-formed, steps-listed}
 use Rattle.witness.specs.LabellingAnswers.{Long, Reaches, FirstLoop, LabellingAnswer, passed, other-length, unreached-at, cycle-at, no-way-back, end-in-body, not-lower-at}
 use Rattle.witness.proofs.Counting.{loops-length}
-use Rattle.witness.specs.Labellings.{stepTest, loopsOf, outcomeOf, answered, labelledOf}
+use Rattle.witness.specs.Labellings.{stepTest, loopsOf, labellingOutcome, labelledAs, labelledOf}
 
 -- the test of a transition decides which there are
 pub tests-step : (b labels : List ℕ) (u l w : ℕ) → Decides (stepTest b labels u l w) (StepsOf b labels u l w)
@@ -54,16 +54,16 @@ module _ (b labels : List ℕ) (W : WellFormed b) (B : Bytes labels) where
       (λ p. p)
       (λ p. absurd (none w g (h, g, p)))
 
-  pub outcome-of : Checked (verticesOf b) (StepsOf b labels) (startOf b) (outcomeOf b labels)
-  unfolding outcomeOf
+  pub outcome-of : Checked (verticesOf b) (StepsOf b labels) (startOf b) (labellingOutcome b labels)
+  unfolding labellingOutcome
   outcome-of = outcome-checked (tests-step b labels) (steps-formed b labels W) labels-below (startOf b) (W .header .start-high)
 
   -- where 30 passes, the answer is that of the checks 31 to 35
-  pub labelled-checked : length labels ≡ countOf b → {o : Outcome} → Checked (verticesOf b) (StepsOf b labels) (startOf b) o → labelledOf b labels ≡ answered (loopsOf b labels) o
+  pub labelled-checked : length labels ≡ countOf b → {o : Outcome} → Checked (verticesOf b) (StepsOf b labels) (startOf b) o → labelledOf b labels ≡ labelledAs (loopsOf b labels) o
   unfolding labelledOf
-  labelled-checked e c = rw (eq-eqb (length labels) (countOf b) e) (ap (answered (loopsOf b labels)) (one-outcome outcome-of c))
+  labelled-checked e c = rw (eq-eqb (length labels) (countOf b) e) (ap (labelledAs (loopsOf b labels)) (one-outcome outcome-of c))
 
-  pub labelled-outcome : length labels ≡ countOf b → labelledOf b labels ≡ answered (loopsOf b labels) (outcomeOf b labels)
+  pub labelled-outcome : length labels ≡ countOf b → labelledOf b labels ≡ labelledAs (loopsOf b labels) (labellingOutcome b labels)
   labelled-outcome e = labelled-checked e outcome-of
 
 -- 30: the labelling has another length
@@ -90,7 +90,7 @@ module _ (b labels : List ℕ) (checked : checkOf b ≡ stage.Passed) (B : Bytes
 
   -- the outcome of 31 to 35, as an answer
   outcome-answer : length labels ≡ countOf b → {o : Outcome} → Checked (verticesOf b) (StepsOf b labels) (startOf b) o
-      → LabellingAnswer b labels (answered (loopsOf b labels) o)
+      → LabellingAnswer b labels (labelledAs (loopsOf b labels) o)
   unfolding loopsOf
   outcome-answer h (all-pass c p) =
       let (k, w) = passes-iff-witness (steps-formed b labels well) (startOf b) .0 (all-pass c p) in
@@ -107,7 +107,7 @@ module _ (b labels : List ℕ) (checked : checkOf b ≡ stage.Passed) (B : Bytes
       (λ h. rw (labelled-long b labels h) (other-length h))
 
   loop-answer : {v l : ℕ} {o : Outcome} → FirstLoop b labels v l → LoopFails (StepsOf b labels) v l o
-      → labelledOf b labels ≡ answered (loopsOf b labels) o
+      → labelledOf b labels ≡ labelledAs (loopsOf b labels) o
   loop-answer f x =
       labelled-checked b labels well B (f .long) (fails-loop (f .reaches) (f .acyclic) (f .is-loop) (f .earlier) x)
 

@@ -7,11 +7,11 @@ use Rattle.report.specs.declared.Labelled.the-variants as labelled
 use Rattle.report.specs.declared.Place.{Place}
 use Rattle.report.specs.declared.Stage.{Stage}
 use Rattle.report.specs.declared.Stage.the-variants.{Passed, Refused}
-use Rattle.witness.specs.Labellings.{answered}
+use Rattle.witness.specs.Labellings.{labelledAs}
 
 -- a check of the loop (v, l) fails, and p is its place
 abbrev pub FailsAt : Steps → ℕ → ℕ → Place → Type 0
-FailsAt S v l p = (o : Outcome) × LoopFails S v l o × ((n : ℕ) → answered n o ≡ labelled.Refused p)
+FailsAt S v l p = (o : Outcome) × LoopFails S v l o × ((n : ℕ) → labelledAs n o ≡ labelled.Refused p)
 
 -- the loops of v, by level: each passes, or the first that fails
 abbrev pub VertexSaid : Steps → ℕ → Stage → Type 0

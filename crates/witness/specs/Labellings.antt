@@ -22,21 +22,21 @@ stepTest b labels u l w =
 unfoldable pub loopsOf : List ℕ → List ℕ → ℕ
 loopsOf b labels = length (loopList (stepTest b labels) (verticesOf b) 256)
 
-unfoldable pub outcomeOf : List ℕ → List ℕ → Outcome
-outcomeOf b labels = outcome (stepTest b labels) (verticesOf b) 256 (startOf b)
+unfoldable pub labellingOutcome : List ℕ → List ℕ → Outcome
+labellingOutcome b labels = outcome (stepTest b labels) (verticesOf b) 256 (startOf b)
 
 -- document 01's answer for each outcome of the checks 31 to 35
-abbrev pub answered : ℕ → Outcome → Labelled
-answered n passes = Passed n
-answered n (unreached p) = Refused (Unreached p)
-answered n (branch-cycle p) = Refused (BranchCycle p)
-answered n (no-return v l) = Refused (LoopNoReturn v l)
-answered n (end-inside v l) = Refused (LoopEndInside v l)
-answered n (not-lower v l r) = Refused (LoopNotLower v l r)
+abbrev pub labelledAs : ℕ → Outcome → Labelled
+labelledAs n passes = Passed n
+labelledAs n (unreached p) = Refused (Unreached p)
+labelledAs n (branch-cycle p) = Refused (BranchCycle p)
+labelledAs n (no-return v l) = Refused (LoopNoReturn v l)
+labelledAs n (end-inside v l) = Refused (LoopEndInside v l)
+labelledAs n (not-lower v l r) = Refused (LoopNotLower v l r)
 
 -- 30 first
 unfoldable pub labelledOf : List ℕ → List ℕ → Labelled
 labelledOf b labels =
     cond (eqb (length labels) (countOf b))
-    (answered (loopsOf b labels) (outcomeOf b labels))
+    (labelledAs (loopsOf b labels) (labellingOutcome b labels))
     (Refused (LabelsLength (length labels)))

@@ -1,7 +1,7 @@
 use mathlib.Core.Path.{_∙_}
 use native.Mathlib.Omega.{arith}
 use Rattle.chart.proofs.Checks.{well-formed}
-use Rattle.bisimulation.specs.Pairs.{Told}
+use Rattle.bisimulation.specs.Pairs.{StepTables}
 use Rattle.bisimulation.proofs.Relations.{fitting, relation-of}
 use Rattle.bisimulation.proofs.Openings.{rows-fit}
 use Rattle.bisimulation.proofs.ClearLaws.{tabled, sought}
@@ -51,7 +51,7 @@ returns c = λ e N.
     let p = k .pre in
     let into = c .before .before .before .before .before .before .before .before .before .before .before .before .before .before .before .spread-rows in
     let acting = c .before .before .before .before .before .before .before .before .before .before .before .before .before .before .acting in
-    let T : Told (into .result) (acting .result) (k .args .words .now) e (k .args .relation .now) =
+    let T : StepTables (into .result) (acting .result) (k .args .words .now) e (k .args .relation .now) =
     record { formed = well-formed e (N .passes); keys = k .args .keys .now; m = k .args .m; numbered = N .numbered; spread = into .ensures; acts = acting .ensures } in
     let used = c .before .before .before .before .before .before .before .before .before .before .before .before .used in
     let S = sought {used = used .result} (λ j. omega (arith, c .before .before .before .before .before .before .before .before .before .before .before .before .before .before .before .before .before .before .shared-slice-known .given j)) (well-formed _ (p .0)) T (rows-fit (p .1) .1) (c .before .before .before .before .before .before .before .before .before .before .before .before .before .users .ensures) (used .ensures) (N .size) (c .before .before .before .before .before .before .before .before .before .before .before .before .before .before .before .before .columns .ensures) (c .before .before .before .before .before .gather .ensures) (N .fits) in

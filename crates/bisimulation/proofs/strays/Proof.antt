@@ -7,14 +7,14 @@ use borrow.Author.Needs.{needs}
 use Rattle.bits.specs.Sets.{Members}
 use Rattle.chart.proofs.Checks.{well-formed}
 use Rattle.chart.specs.Bodies.{verticesOf}
-use Rattle.bisimulation.specs.Answers.{Stray}
+use Rattle.bisimulation.specs.Answers.{StrayBit}
 use Rattle.bisimulation.proofs.PairChecks.{stray-first, stray-none, stray-passed}
 use Rattle.bisimulation.proofs.RowLaws.{related-row}
 use Rattle.bisimulation.proofs.strays.Statement.{statement}
 use Rattle.bisimulation.proofs.strays.Tie as tie
 
 abbrev Inv-loop : tie.InvT-loop
-Inv-loop body relation rows inside u₀ u = (length relation ≡ 16 * rows) × Members (λ (w : ℕ). (0 ≤ w) × (w < verticesOf body)) inside × ((a : ℕ) → a < u → (v : ℕ) → ¬ Stray body relation a v)
+Inv-loop body relation rows inside u₀ u = (length relation ≡ 16 * rows) × Members (λ (w : ℕ). (0 ≤ w) × (w < verticesOf body)) inside × ((a : ℕ) → a < u → (v : ℕ) → ¬ StrayBit body relation a v)
 
 abbrev μ-loop : tie.MeasureT-loop
 μ-loop body relation rows inside u₀ u = rows - u

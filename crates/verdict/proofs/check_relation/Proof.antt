@@ -24,11 +24,11 @@ returns c =
     let n = c .before .before .before .before .before .before .args .nodes .now in
     opening-refused (bodyOf n) _ _ _ _ (nodes-vertices n) (nodes-start n) (c .before .before .opening .ensures) (c .enum-told2 .given .1)
 
-add-check-pairs : tie.Need-add-check-pairs
-add-check-pairs c = search needs
+add-check-numbered-pairs : tie.Need-add-check-numbered-pairs
+add-check-numbered-pairs c = search needs
 
-check-pairs-requires : tie.Need-check-pairs-requires
-check-pairs-requires c κs =
+check-numbered-pairs-requires : tie.Need-check-numbered-pairs-requires
+check-numbered-pairs-requires c κs =
     let k = c .before .before .before .before .before .before in
     let n = k .args .nodes .now in
     let (F, S) = opening-passes (bodyOf n) _ _ _ _ (nodes-vertices n) (nodes-start n) (c .before .before .opening .ensures) (c .enum-told .given .1) in
@@ -46,6 +46,6 @@ check-relation-spec =
     enum-told
     enum-told-2
     returns
-    add-check-pairs
-    check-pairs-requires
+    add-check-numbered-pairs
+    check-numbered-pairs-requires
     returns-2)

@@ -22,7 +22,7 @@ check-pair-requires c κs = let p = c .before .before .before .before .before .p
 returns-2 : tie.Need-returns-2
 returns-2 c = λ e relation S.
     let p = c .before .before .before .before .before .before .pre in
-    c .check-pair .ensures e relation (S .told) (S .given _ _ (p .3) (rw (c .before .before .before .row .ensures) at (c .before .before .contains .ensures .0 (not-false _ (c .before .if1 .left)))))
+    c .check-pair .ensures e relation (S .tables) (S .given _ _ (p .3) (rw (c .before .before .before .row .ensures) at (c .before .before .contains .ensures .0 (not-false _ (c .before .if1 .left)))))
 
 pub suspect-pair-spec : {M : Type 1} → statement M
 suspect-pair-spec =

@@ -9,8 +9,8 @@ use Rattle.bisimulation.specs.Answers.{NumberedChart}
 use Rattle.verdict.specs.Verdicts.{ComeToPairs}
 use native.Mathlib.Omega.{arith}
 use borrow.Author.Needs.{needs}
-use Rattle.verdict.proofs.check_pairs.Statement.{statement}
-use Rattle.verdict.proofs.check_pairs.Tie as tie
+use Rattle.verdict.proofs.check_numbered_pairs.Statement.{statement}
+use Rattle.verdict.proofs.check_numbered_pairs.Tie as tie
 
 -- the expression's chart has the numbers
 charted : {nodes b relation keys words : List ℕ} {vertices m : ℕ} → Bytes nodes → ComeToPairs nodes vertices b relation → Numbered (bodyOf nodes) keys words m → NumberedChart keys words m vertices b relation (bodyOf nodes)
@@ -29,5 +29,5 @@ returns c =
     let k = c .before .before .before .before .before .before .before .before .before in
     c .check-pairs .ensures (bodyOf (k .args .nodes .now)) (charted (λ i. omega (arith, c .before .before .before .before .before .before .before .before .shared-slice-known .given i)) (k .pre) (c .before .before .before .number-steps .ensures))
 
-pub check-pairs-spec : {M : Type 1} → statement M
-check-pairs-spec = tie.close (tie.spec number-steps-requires check-pairs-requires returns)
+pub check-numbered-pairs-spec : {M : Type 1} → statement M
+check-numbered-pairs-spec = tie.close (tie.spec number-steps-requires check-pairs-requires returns)
