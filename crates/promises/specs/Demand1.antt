@@ -19,7 +19,7 @@ use Rattle.expression.specs.Table as nodes
 use Rattle.expression.specs.Body.{bodyOf}
 use Rattle.witness.specs.LabellingAnswers as labelling
 use Rattle.bisimulation.specs.Relations.{indexedOf}
-use Rattle.bisimulation.specs.Answers.{Related, Stray, Fits, EndsAgree}
+use Rattle.bisimulation.specs.Answers.{Related, Stray, RelationFits, EndsAgree}
 use Rattle.bisimulation.specs.RelationAnswers.{Comes}
 use Rattle.bits.specs.Packed.{twoAt}
 use Rattle.verdict.specs.Files.{endAt, offsetOf, Whole, Before}
@@ -91,7 +91,7 @@ expressionIn f = bodyOf (nodesIn f)
 
 -- 40 and 41 pass; the checks come to the pair (p, q): 42 passes too, it is related, and every earlier pair passes
 abbrev pub PairsFit : List ℕ → Type 0
-PairsFit f = LabelsPass f × Fits (expressionIn f) (chartIn f) (relationIn f)
+PairsFit f = LabelsPass f × RelationFits (expressionIn f) (chartIn f) (relationIn f)
 
 abbrev pub AtPair : List ℕ → ℕ → ℕ → Type 0
 AtPair f p q = LabelsPass f × Comes (expressionIn f) (chartIn f) (relationIn f) p q
