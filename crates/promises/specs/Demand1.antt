@@ -10,7 +10,8 @@ use Rattle.theory.specs.Charts.{Steps}
 use Rattle.theory.specs.Least.{Least, FirstPair}
 use Rattle.theory.specs.Witnesses.{Witness, Connected}
 use Rattle.theory.specs.Checks.{Unreached, OnBranchCycle, NotLower}
-use Rattle.theory.specs.Relations.{Indexed, Unmatched, AllMatched, converse}
+use Rattle.theory.specs.Systems.{converse}
+use Rattle.theory.specs.Relations.{Indexed, Unmatched, AllMatched, EndsAgree}
 use Rattle.report.specs.declared.Numbers.{Numbers}
 use Rattle.chart.specs.Bodies as chart
 use Rattle.chart.specs.Bodies.{verticesOf, startOf, countOf}
@@ -19,7 +20,7 @@ use Rattle.expression.specs.Table as nodes
 use Rattle.expression.specs.Body.{bodyOf}
 use Rattle.witness.specs.LabellingAnswers as labelling
 use Rattle.bisimulation.specs.Relations.{indexedOf}
-use Rattle.bisimulation.specs.Answers.{Related, Stray, RelationFits, EndsAgree}
+use Rattle.bisimulation.specs.Answers.{Related, Stray, RelationFits}
 use Rattle.bisimulation.specs.RelationAnswers.{Comes}
 use Rattle.bits.specs.Packed.{twoAt}
 use Rattle.verdict.specs.Files.{endAt, offsetOf, Whole, Before}
