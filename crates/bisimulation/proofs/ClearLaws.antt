@@ -6,7 +6,8 @@ use Prim.Native.Nat.{ℕ, _+_, _/_, _%_, _^_, _≤_, _<_}
 use native.Mathlib.Decide.{ℕ-discrete}
 use native.Mathlib.Omega.{arith}
 use lib.ListN.{length, getD, replicate}
-use Rattle.theory.specs.Relations.{AllMatched, converse}
+use Rattle.theory.specs.Systems.{converse}
+use Rattle.theory.specs.Relations.{AllMatched}
 use Rattle.bits.specs.Bits.{Bytes}
 use Rattle.bits.specs.declared.sets.Set.{Set}
 use Rattle.bits.specs.Words.{On}

@@ -13,13 +13,13 @@ use Rattle.bits.specs.Sets.{Has, Members, Difference}
 use Rattle.theory.specs.Least.{Earlier}
 use Rattle.theory.specs.Tests.{Decides}
 use Rattle.theory.proofs.Tests.{decides-eqb, not-so}
-use Rattle.theory.specs.Relations.{fails-pair}
+use Rattle.theory.specs.Relations.{EndsAgree, fails-pair}
 use Rattle.chart.specs.Bodies.{verticesOf, startOf}
 use Rattle.report.specs.declared.Place.{Place}
 use Rattle.report.specs.declared.Place.the-variants.{PairNoVertex}
 use Rattle.report.specs.declared.Stage.{Stage}
 use Rattle.report.specs.declared.Stage.the-variants.{Passed, Refused}
-use Rattle.bisimulation.specs.Answers.{Related, StrayBit, EndsAgree, Passes, FailsWith, PairAnswer, RowAnswer, CheckedAnswer, StrayAnswer}
+use Rattle.bisimulation.specs.Answers.{Related, StrayBit, Passes, FailsWith, PairAnswer, RowAnswer, CheckedAnswer, StrayAnswer}
 use Rattle.bisimulation.proofs.RowLaws.{has-related}
 
 -- 43: the test of the ends

@@ -8,7 +8,8 @@ use native.Mathlib.Omega.{arith}
 use lib.ListN.{getD}
 use Rattle.theory.specs.Least.{Least}
 use Rattle.theory.proofs.Search.{look-below}
-use Rattle.theory.specs.Relations.{Matched, Unmatched, AllMatched, converse}
+use Rattle.theory.specs.Systems.{converse}
+use Rattle.theory.specs.Relations.{Matched, Unmatched, AllMatched}
 use Rattle.bits.specs.Bits.{Bytes}
 use Rattle.bits.specs.declared.sets.Set.{Set}
 use Rattle.bits.specs.First.{First}

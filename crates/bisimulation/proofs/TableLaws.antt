@@ -11,7 +11,7 @@ use lib.ListN.{length, getD, set, length-set, replicate, getD-replicate}
 use lib.Seq.{getD-set-same, getD-set-other}
 use borrow.Author.Count.{below-more}
 use borrow.Author.Tests.{eqb-true}
-use Rattle.theory.specs.Relations.{converse}
+use Rattle.theory.specs.Systems.{converse}
 use Rattle.bits.specs.declared.sets.Set.{Set}
 use Rattle.bits.specs.Words.{On, With}
 use Rattle.bits.specs.Sets.{Has, Members, SetFits}

@@ -1,6 +1,5 @@
 -- What the stages of the checks 40 to 45 answer: the contracts of the code.
 use mathlib.Core.Path.{_≡_}
-use mathlib.Core.Logic.{_↔_}
 use mathlib.Core.Bool.{true}
 use mathlib.Core.List.{List}
 use Prim.Native.Nat.{ℕ, _*_, _≤_, _<_}
@@ -28,10 +27,6 @@ StrayBit body relation u v = (verticesOf body ≤ v) × Related relation u v
 pub record RelationFits (expression body relation : List ℕ) : Type 0 where
   pub whole : length relation ≡ 16 * verticesOf expression
   pub inside : (u v : ℕ) → Related relation u v → (u < verticesOf expression) × (v < verticesOf body)
-
--- 43: both are the end, or neither is
-abbrev pub EndsAgree : ℕ → ℕ → Type 0
-EndsAgree p q = (p ≡ 0) ↔ (q ≡ 0)
 
 -- what 41 answers
 pub record StrayAnswer (body relation : List ℕ) (s : Stage) : Type 0 where

@@ -1,5 +1,5 @@
--- The definitions. The meaning: RelationAnswers, with Related, RelationFits and Passes in Answers. The tests: Relations.
--- The rest of Answers, Suspects, Places and Pairs are contracts of the code, and only serve proofs.
+-- The definitions. The meaning: RelationAnswers, with Related, RelationFits and Passes in Answers. The tests:
+-- Relations. The rest of Answers, Suspects, Places and Pairs are contracts of the code, and only serve proofs.
 pub mod RelationAnswers
 pub mod Relations
 pub mod Answers

@@ -5,9 +5,9 @@ use mathlib.Core.List.{List}
 use Prim.Native.Nat.{ℕ, _*_}
 use lib.ListN.{length}
 use Rattle.theory.specs.Least.{Least, Earlier, FirstPair}
-use Rattle.theory.specs.Systems.{Bisimulation}
+use Rattle.theory.specs.Systems.{Bisimulation, converse}
 use Rattle.theory.specs.Transitions.{chart}
-use Rattle.theory.specs.Relations.{Unmatched, AllMatched, converse}
+use Rattle.theory.specs.Relations.{Unmatched, AllMatched, EndsAgree}
 use Rattle.report.specs.declared.Place.the-variants.{RelationLength, PairNoVertex, PairStarts}
 use Rattle.report.specs.declared.Place.the-variants.{PairEnds, PairExpressionStep, PairChartStep}
 use Rattle.report.specs.declared.Stage.{Stage}
@@ -15,7 +15,7 @@ use Rattle.report.specs.declared.Stage.the-variants.{Passed, Refused}
 use Rattle.chart.specs.Bodies.{verticesOf, startOf}
 use Rattle.chart.specs.Steps.{transitionsOf}
 use Rattle.bisimulation.specs.Relations.{indexedOf}
-use Rattle.bisimulation.specs.Answers.{Related, StrayBit, RelationFits, EndsAgree, Passes}
+use Rattle.bisimulation.specs.Answers.{Related, StrayBit, RelationFits, Passes}
 
 -- 40 to 42 pass, (p, q) is related, and every earlier related pair passes
 pub record Comes (expression body relation : List ℕ) (p q : ℕ) : Type 0 where

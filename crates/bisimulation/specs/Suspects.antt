@@ -4,13 +4,14 @@ use mathlib.Core.Logic.{_↔_}
 use mathlib.Core.List.{List}
 use Prim.Native.Nat.{ℕ, _/_, _%_, _≤_, _<_}
 use lib.ListN.{length, getD}
+use Rattle.theory.specs.Relations.{EndsAgree}
 use Rattle.bits.specs.declared.sets.Set.{Set}
 use Rattle.bits.specs.Words.{On}
 use Rattle.bits.specs.Sets.{Has}
 use Rattle.bits.specs.Tables.{HasRow, Gains}
 use Rattle.chart.specs.Bodies.{countOf, fromOf, actionOf, toOf, WellFormed}
 use Rattle.bisimulation.specs.declared.clearing.Matches.{Matches}
-use Rattle.bisimulation.specs.Answers.{Related, EndsAgree}
+use Rattle.bisimulation.specs.Answers.{Related}
 
 -- THE TABLES
 -- rows a and b are related to the same vertices

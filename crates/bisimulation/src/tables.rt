@@ -11,7 +11,7 @@ ghost use lib.ListN.{length, getD};
 ghost use Rattle.bits.specs.Words.{On};
 ghost use Rattle.bits.specs.Sets.{Has};
 ghost use Rattle.bits.specs.Tables.{Table, Gains};
-ghost use Rattle.theory.specs.Relations.{converse};
+ghost use Rattle.theory.specs.Systems.{converse};
 ghost use Rattle.bisimulation.specs.Answers.{Related};
 ghost use Rattle.bisimulation.specs.Suspects.{SameRow, Stretch, SameTarget, RowSpread, KeyInto, Identity};
 ghost use Rattle.bisimulation.specs.Suspects.{Acting, SameWord, UsedBy, Used};

@@ -16,8 +16,8 @@ use crate::words::number;
 use crate::words::part;
 use crate::words::place;
 
-// A line's first word by its number: first the parts' names, as the parts are numbered, then what changes a part, what else
-// a line does before a call, a remark and a line without words, and the calls.
+// A line's first word by its number: first the parts' names, as the parts are numbered, then what changes a part, what
+// else a line does before a call, a remark and a line without words, and the calls.
 pub(crate) fn word_of(line: &[u8]) -> usize {
     place(
         b"nodes chart labels relation file more repeat at row cut keep case #  check leaving ",

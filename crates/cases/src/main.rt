@@ -1,5 +1,5 @@
-// Runs the cases of a table that it reads on standard input; the file `stdin` beside this folder is one, and says at its
-// head how it is written. Each call of a case writes the case's name, the call, the answer and whether it is the
+// Runs the cases of a table that it reads on standard input; the file `stdin` beside this folder is one, and says at
+// its head how it is written. Each call of a case writes the case's name, the call, the answer and whether it is the
 // expected one; the last line counts.
 mod answers;
 mod lines;

@@ -52,7 +52,8 @@ fn shift(bytes: &mut [u8], at: usize, digit: u8)
     put(bytes, at, value);
 }
 
-// Writes bytes from a place on, two hexadecimal digits each, and answers the place after them. All else in the text is passed over.
+// Writes bytes from a place on, two hexadecimal digits each, and answers the place after them. All else in the text is
+// passed over.
 pub(crate) fn write(bytes: &mut [u8], at: usize, text: &[u8]) -> usize
     requires { ⌜ at < 100000000 ⌝ }
     ensures { λ r. ⌜ at ≤ r ⌝ }

@@ -1,5 +1,5 @@
--- The definitions. The meaning: Bodies, Steps, Standing, Sets (what a search reaches), Numbered. The tests that run: Checks
--- and Leaving. Codes only serves the proof of `check`.
+-- The definitions. The meaning: Bodies, Steps, Standing, Sets (what a search reaches), Numbered. The tests that run:
+-- Checks and Leaving. Codes only serves the proof of `check`.
 pub mod Bodies
 pub mod Checks
 pub mod Leaving

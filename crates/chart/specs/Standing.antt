@@ -1,5 +1,5 @@
--- Standing bytes, one a transition: 1 stands, 0 is gone. They are said by index, since two transitions that differ in their
--- action only are one step of `StepsOf`.
+-- Standing bytes, one a transition: 1 stands, 0 is gone. They are said by index, since two transitions that differ in
+-- their action only are one step of `StepsOf`.
 use Prim.Native.Nat.{ℕ, _≤_, _<_}
 use mathlib.Core.Path.{_≡_}
 use mathlib.Core.Logic.{_⊎_, _↔_}

@@ -40,8 +40,8 @@ fn jumps(after: &[u64; 256], from: usize, to: usize, stop: usize, w: usize) -> b
     !in_row(after, w, stop)
 }
 
-// The turn of w, which is past: its successors are seen, unless it is `stop`. Where all that w reaches is known, that is
-// seen and past.
+// The turn of w, which is past: its successors are seen, unless it is `stop`. Where all that w reaches is known, that
+// is seen and past.
 fn visit(
     next: &[u64; 256],
     after: &[u64; 256],
@@ -76,8 +76,8 @@ fn visit(
     }
 }
 
-// What the table `next` reaches from a set, never leaving `stop`; the end, 0, stops nothing. Set x of `after` has, for
-// each x from `from` up to `to`, what x reaches by one step or more.
+// What the table `next` reaches from a set, never leaving `stop`; the end, 0, stops nothing. Set x of `after` has,
+// for each x from `from` up to `to`, what x reaches by one step or more.
 pub fn closure_knowing(
     next: &[u64; 256],
     after: &[u64; 256],
@@ -137,8 +137,8 @@ fn turns(i: usize, n: usize, down: bool) -> Span
     Span { from: 0, to: i }
 }
 
-// The first turn whose vertex reaches itself, or n: the first n vertices have a turn each. What each reaches is kept for
-// the next ones; where the answer is n, `after` has it of all of them.
+// The first turn whose vertex reaches itself, or n: the first n vertices have a turn each. What each reaches is kept
+// for the next ones; where the answer is n, `after` has it of all of them.
 fn first_turn(next: &[u64; 256], n: usize, down: bool, after: &mut [u64; 256]) -> usize
     requires { ⌜ (length (now next) ≡ 256) × (n ≤ 128) × (length (now after) ≡ 256) ⌝ }
     ensures { λ r. ⌜ Searched (now (next .entry)) n down (now (after .entry)) r (now (after .exit)) ⌝ }
@@ -157,8 +157,8 @@ fn first_turn(next: &[u64; 256], n: usize, down: bool, after: &mut [u64; 256]) -
     i
 }
 
-// The turns from below: the lowest of the first n vertices that reaches itself, or n. Where there is a cycle `after` has
-// nothing.
+// The turns from below: the lowest of the first n vertices that reaches itself, or n. Where there is a cycle `after`
+// has nothing.
 fn cycle_from_below(next: &[u64; 256], n: usize, after: &mut [u64; 256]) -> usize
     requires { ⌜ (length (now next) ≡ 256) × (n ≤ 128) × (length (now after) ≡ 256) ⌝ }
     ensures { λ r. ⌜ Cycles (now (next .entry)) n (now (after .entry)) r (now (after .exit)) ⌝ }
@@ -170,9 +170,9 @@ fn cycle_from_below(next: &[u64; 256], n: usize, after: &mut [u64; 256]) -> usiz
     r
 }
 
-// The lowest of the first n vertices that reaches itself, or n: then `after` has what each of them reaches, and the sets
-// of the others stay. Where there is a cycle `after` has nothing. A cycle found from above need not be that of the
-// lowest vertex.
+// The lowest of the first n vertices that reaches itself, or n: then `after` has what each of them reaches, and the
+// sets of the others stay. Where there is a cycle `after` has nothing. A cycle found from above need not be that of
+// the lowest vertex.
 pub fn cycle(next: &[u64; 256], n: usize, after: &mut [u64; 256]) -> usize
     requires { ⌜ (length (now next) ≡ 256) × (n ≤ 128) × (length (now after) ≡ 256) ⌝ }
     ensures { λ r. ⌜ Cycles (now (next .entry)) n (now (after .entry)) r (now (after .exit)) ⌝ }

@@ -14,8 +14,8 @@ use Rattle.report.specs.declared.Place.the-variants as place
 use Rattle.report.specs.declared.Stage.{Stage}
 use Rattle.report.specs.declared.Stage.the-variants as stage
 use Rattle.report.specs.declared.Written.the-variants as written
-use Rattle.theory.specs.Transitions.{Transition, precedes}
-use Rattle.theory.proofs.Ascending.{Precedes, precedes→, precedes-order, member-at, places-ascend}
+use Rattle.theory.specs.Transitions.{Transition, Precedes, precedes}
+use Rattle.theory.proofs.Ascending.{precedes→, precedes-order, member-at, places-ascend}
 use Rattle.theory.proofs.ExpressionCharts.{transitions-ascend, chart-sound, chart-complete, residual-of-start}
 use Rattle.theory.proofs.Bounds.{transition-bounds}
 use Rattle.expression.specs.Table.{node, count, checkOf}

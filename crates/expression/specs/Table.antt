@@ -114,8 +114,8 @@ pub record WellFormed (s : List ℕ) : Type 0 where
 pub data NodesChecked (s : List ℕ) : Stage → Type 0 where
   passed : WellFormed s → NodesChecked s Passed
   ill-sized : (Sized s → ⊥) → NodesChecked s (Refused (place.NodesLength (length s)))
-  malformed-at : (p : ℕ) → Sized s → p < count s → isGood (node s p) ≡ false → ((k : ℕ) → k < p → isGood (node s k) ≡ true)
-      → NodesChecked s (Refused (place.Node p))
+  malformed-at : (p : ℕ) → Sized s → p < count s → isGood (node s p) ≡ false
+      → ((k : ℕ) → k < p → isGood (node s k) ≡ true) → NodesChecked s (Refused (place.Node p))
   misused-at : (p : ℕ) → Sized s → ((k : ℕ) → k < count s → isGood (node s k) ≡ true)
       → suc p < count s → (usesOf s p ≡ 1 → ⊥) → ((j : ℕ) → j < p → usesOf s j ≡ 1)
       → NodesChecked s (Refused (place.NodeUses p (usesOf s p)))

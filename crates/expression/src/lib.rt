@@ -1,4 +1,5 @@
-// Kind 1: the checks of an expression's nodes, the steps of its chart as numbers, and the chart written as a chart body.
+// Kind 1: the checks of an expression's nodes, the steps of its chart as numbers, and the chart written as a chart
+// body.
 mod body;
 mod nodes;
 mod ranks;

@@ -1,5 +1,5 @@
--- What an accepted file is: four records, an expression, a connected chart with a layered loop witness, and a bisimulation between the
--- expression's chart and the panel's; and the three counts.
+-- What an accepted file is: four records, an expression, a connected chart with a layered loop witness, and a
+-- bisimulation between the expression's chart and the panel's; and the three counts.
 use mathlib.Core.Path.{_≡_}
 use mathlib.Core.List.{List}
 use Prim.Native.Nat.{ℕ, suc, _*_, _<_, _≤_}

@@ -1,5 +1,5 @@
--- Demand 1, by the numbers: what document 01 says of each answer `n p q r` of the check, unused places 0, in the order of
--- its list of refusals; and the same for the expression's chart. A sentence for n also says that the checks before n pass.
+-- Demand 1, by the numbers: what document 01 says of each answer `n p q r` of the check, unused places 0, in the order
+-- of its list of refusals; and the same for the expression's chart. A sentence for n has the checks before it pass.
 use mathlib.Core.Path.{_≡_}
 use mathlib.Core.Logic.{_≢_, _⊎_}
 use mathlib.Core.Bool.{false}
@@ -10,7 +10,8 @@ use Rattle.theory.specs.Charts.{Steps}
 use Rattle.theory.specs.Least.{Least, FirstPair}
 use Rattle.theory.specs.Witnesses.{Witness, Connected}
 use Rattle.theory.specs.Checks.{Unreached, OnBranchCycle, NotLower}
-use Rattle.theory.specs.Relations.{Indexed, Unmatched, AllMatched, converse}
+use Rattle.theory.specs.Systems.{converse}
+use Rattle.theory.specs.Relations.{Indexed, Unmatched, AllMatched, EndsAgree}
 use Rattle.report.specs.declared.Numbers.{Numbers}
 use Rattle.chart.specs.Bodies as chart
 use Rattle.chart.specs.Bodies.{verticesOf, startOf, countOf}
@@ -19,10 +20,9 @@ use Rattle.expression.specs.Table as nodes
 use Rattle.expression.specs.Body.{bodyOf}
 use Rattle.witness.specs.LabellingAnswers as labelling
 use Rattle.bisimulation.specs.Relations.{indexedOf}
-use Rattle.bisimulation.specs.Answers.{Related, StrayBit, RelationFits, EndsAgree}
+use Rattle.bisimulation.specs.Answers.{Related, StrayBit, RelationFits}
 use Rattle.bisimulation.specs.RelationAnswers.{Comes}
-use Rattle.bits.specs.Packed.{twoAt}
-use Rattle.verdict.specs.Files.{endAt, offsetOf, Whole, RecordsBefore}
+use Rattle.verdict.specs.Files.{endAt, kindAt, offsetOf, HasHeader, Whole, RecordsBefore}
 use Rattle.verdict.specs.Verdicts.{nodesIn, chartIn, labelsIn, relationIn}
 use Rattle.promises.specs.Accepted.{Holds}
 
@@ -30,11 +30,11 @@ use Rattle.promises.specs.Accepted.{Holds}
 abbrev pub Incomplete : List ℕ → ℕ → Type 0
 Incomplete f k =
     (length f < offsetOf f k + 4)
-    ⊎ ((offsetOf f k + 4 ≤ length f) × (twoAt f (offsetOf f k + 2) ≡ suc k) × (length f < endAt f (offsetOf f k)))
+    ⊎ (HasHeader f (offsetOf f k) × (kindAt f (offsetOf f k) ≡ suc k) × (length f < endAt f (offsetOf f k)))
 
 -- its header is there, and has another kind
 abbrev pub WrongKind : List ℕ → ℕ → ℕ → Type 0
-WrongKind f k found = (offsetOf f k + 4 ≤ length f) × (twoAt f (offsetOf f k + 2) ≡ found) × (found ≢ suc k)
+WrongKind f k found = HasHeader f (offsetOf f k) × (kindAt f (offsetOf f k) ≡ found) × (found ≢ suc k)
 
 -- THE NODES, in the body of kind 1. Node p is malformed; node p is not the root and not an operand exactly once
 abbrev pub Malformed : List ℕ → ℕ → Type 0
@@ -159,7 +159,8 @@ pub data Sentence (f : List ℕ) : (n p q r : ℕ) → Type 0 where
   -- the relation's author: not N + 1 rows of 16 bytes; the length
   says-40 : LabelsPass f → ¬ RowsFit f → Sentence f 40 (length (relationIn f)) 0 0
   -- bit for a vertex of V or above; the first, by row and then by column
-  says-41 : {p q : ℕ} → LabelsPass f → RowsFit f → FirstPair (StrayBit (chartIn f) (relationIn f)) p q → Sentence f 41 p q 0
+  says-41 : {p q : ℕ} → LabelsPass f → RowsFit f → FirstPair (StrayBit (chartIn f) (relationIn f)) p q
+      → Sentence f 41 p q 0
   -- starts unrelated; row N and the start
   says-42 : PairsFit f → ¬ RelatedIn f (nodes.count (nodesIn f)) (startOf (chartIn f))
       → Sentence f 42 (nodes.count (nodesIn f)) (startOf (chartIn f)) 0

@@ -1,5 +1,6 @@
--- Demand 2. "An expression's chart has exactly the steps that the published rules derive, none more, none fewer. A labelling passes
--- exactly when it is a layered loop witness of a connected chart, a relation exactly when it is a bisimulation."
+-- Demand 2. "An expression's chart has exactly the steps that the published rules derive, none more, none fewer. A
+-- labelling passes exactly when it is a layered loop witness of a connected chart, a relation exactly when it is a
+-- bisimulation."
 use mathlib.Core.Path.{_≡_}
 use mathlib.Core.Logic.{_↔_}
 use mathlib.Core.List.{List, _++_, List·Memᴰ}
@@ -23,20 +24,28 @@ use Rattle.witness.specs.Labellings.{labelledOf}
 use Rattle.bisimulation.specs.Relations.{relationOf}
 use Rattle.bisimulation.specs.Answers.{Related}
 
--- THE EXPRESSION'S CHART. What the vertex of node k stands for
+-- THE EXPRESSION'S CHART. What the vertex of node k stands for, and what any vertex does
 abbrev pub residualOf : List ℕ → ℕ → Expr
 residualOf s k = residual (nodes.node s) (nodes.count s) k
 
+abbrev pub meaningOf : List ℕ → ℕ → Target
+meaningOf s v = meaning (nodes.node s) (nodes.count s) v
+
+-- the body has this transition: from, action, to
+abbrev pub HasTransition : (body : List ℕ) (u a t : ℕ) → Type 0
+HasTransition body u a t = List·Memᴰ (u, a, t) (transitionsOf body)
+
 -- some transition of the body with this action leads from u to a vertex that stands for ξ
 abbrev pub LeadsTo : (s body : List ℕ) (u a : ℕ) → Target → Type 0
-LeadsTo s body u a ξ = (t : ℕ) × List·Memᴰ (u, a, t) (transitionsOf body) × (meaning (nodes.node s) (nodes.count s) t ≡ ξ)
+LeadsTo s body u a ξ = (t : ℕ) × HasTransition body u a t × (meaningOf s t ≡ ξ)
 
--- from the vertex of node k exactly the steps of its residual, from no other vertex any; the vertices, and all targets, are the end
--- and one for each node; no transition is listed twice; and the start stands for the whole expression
+-- from the vertex of node k exactly the steps of its residual, from no other vertex any; the vertices, and all targets,
+-- are the end and one for each node; no transition is listed twice; and the start stands for the whole expression
 pub record ExactSteps (s body : List ℕ) : Type 0 where
-  pub derived : (k : ℕ) → k < nodes.count s → (a : ℕ) (ξ : Target) → Step (residualOf s k) a ξ ↔ LeadsTo s body (suc k) a ξ
-  pub vertices : (u a t : ℕ) → List·Memᴰ (u, a, t) (transitionsOf body) → (k : ℕ) × (k < nodes.count s) × (u ≡ suc k)
-  pub targets : (u a t : ℕ) → List·Memᴰ (u, a, t) (transitionsOf body) → t < verticesOf body
+  pub derived : (k : ℕ) → k < nodes.count s
+      → (a : ℕ) (ξ : Target) → Step (residualOf s k) a ξ ↔ LeadsTo s body (suc k) a ξ
+  pub vertices : (u a t : ℕ) → HasTransition body u a t → (k : ℕ) × (k < nodes.count s) × (u ≡ suc k)
+  pub targets : (u a t : ℕ) → HasTransition body u a t → t < verticesOf body
   pub size : verticesOf body ≡ suc (nodes.count s)
   pub ascend : Ascending precedes (transitionsOf body)
   pub start : (k : ℕ) → nodes.count s ≡ suc k → (startOf body ≡ suc k) × (residualOf s k ≡ expr (nodes.node s) k)
@@ -49,7 +58,9 @@ WritesTheChart s lent = (n : ℕ) → writtenOf s (length lent) ≡ written.Leng
 -- LABELLINGS, beside a chart body that passes 20 and 21
 abbrev pub LabellingPasses : List ℕ → List ℕ → Type 0
 LabellingPasses b labels = ((n : ℕ) × (labelledOf b labels ≡ labelled.Passed n))
-    ↔ ((length labels ≡ countOf b) × Connected (verticesOf b) (StepsOf b labels) (startOf b) × Witness (StepsOf b labels) (startOf b))
+    ↔ ((length labels ≡ countOf b)
+    × Connected (verticesOf b) (StepsOf b labels) (startOf b)
+    × Witness (StepsOf b labels) (startOf b))
 
 -- RELATIONS, between two chart bodies
 abbrev pub chartSystem : List ℕ → System

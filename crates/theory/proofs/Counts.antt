@@ -9,8 +9,7 @@ use native.Mathlib.Omega.{arith}
 use lib.Dec.{eqb}
 use lib.ListN.{length, length-append, length-map}
 use borrow.Author.Tests.{eq-eqb, ne-eqb, eqb-true, eqb-false}
-use Rattle.theory.specs.Nodes.{Op, op-sum, op-product, op-star, Node, bad, dead, leaf, bin, join, first, Up, top, on, over, aboveLeft, up, one, usesIn, uses, rise, Tree}
-pub use Rattle.theory.specs.Nodes.{atLeaf}
+use Rattle.theory.specs.Nodes.{Op, op-sum, op-product, op-star, Node, bad, dead, leaf, bin, join, first, Up, top, on, over, aboveLeft, up, one, usesIn, uses, rise, atLeaf, Tree}
 use Rattle.theory.specs.Recursions.{Parent, LocalUp}
 use Rattle.theory.specs.Transitions.{precedes}
 use Rattle.theory.specs.ExpressionCharts.{edge, edges, collect, transitions}

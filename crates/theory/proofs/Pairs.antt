@@ -7,8 +7,7 @@ use Prim.Native.Nat.{ℕ, zero, suc, _+_, _≤_, _<_}
 use native.Mathlib.Omega.{arith}
 use native.Mathlib.Decide.{ℕ-discrete}
 use Rattle.theory.specs.Least.{Earlier}
-pub use Rattle.theory.specs.Orders.{Pair}
-use Rattle.theory.specs.Orders.{Distinct, none, one, Before, at-head, further}
+use Rattle.theory.specs.Orders.{Pair, Distinct, none, one, Before, at-head, further}
 use Rattle.theory.specs.Tests.{rowPairs, pairsFrom, pairs}
 
 -- LISTS

@@ -1,4 +1,4 @@
--- Charts with a loop labelling (001, sections 2 and 3), as relations. Actions play no part in what a labelling is held to.
+-- Charts with a loop labelling (001, sections 2 and 3), as relations. Actions play no part in a labelling.
 use mathlib.Core.Logic.{_↔_}
 use Prim.Native.Nat.{ℕ, _<_}
 use Rattle.theory.specs.Paths.{Edges}

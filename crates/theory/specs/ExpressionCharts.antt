@@ -1,4 +1,4 @@
--- The chart of an expression that is given as a table of nodes: vertex k + 1 stands for node k, the start is the last node's.
+-- The chart of an expression given as a table of nodes: vertex k + 1 stands for node k, the start is the last node's.
 use Prim.Native.Nat.{ℕ, zero, suc}
 use mathlib.Core.List.{List, [], _∷_, _++_, map}
 use Rattle.theory.specs.Ascending.{sort}

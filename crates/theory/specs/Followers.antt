@@ -24,6 +24,14 @@ pub data Answer : Type 0 where
 abbrev pub StateSet : System → Type 1
 StateSet M = M .State → Type 0
 
+-- the same members
+abbrev pub SameMembers : (M : System) → StateSet M → StateSet M → Type 0
+SameMembers M P Q = (x : M .State) → P x ↔ Q x
+
+-- a fresh start: the start alone
+abbrev pub Fresh : (M : System) → StateSet M
+Fresh M x = x ≡ M .start
+
 -- some member
 abbrev pub Some : (M : System) → StateSet M → Type 0
 Some M P = (x : M .State) × P x
@@ -50,16 +58,18 @@ pub record Told (M : System) (P : StateSet M) (b : Bool) (n : ℕ) : Type 0 wher
 
 -- one call: the answer, and the members after it
 pub data Moves (M : System) (P : StateSet M) : Call → Answer → StateSet M → Type 1 where
-  restarts : {Q : StateSet M} {b : Bool} {n : ℕ} → ((x : M .State) → Q x ↔ (x ≡ M .start)) → Told M Q b n → Moves M P restart (answer taken b n) Q
-  takes : {a : ℕ} {Q : StateSet M} {b : Bool} {n : ℕ} → Offered M P a → ((x : M .State) → Q x ↔ Next M P a x) → Told M Q b n → Moves M P (event a) (answer taken b n) Q
-  keeps : {a : ℕ} {Q : StateSet M} {b : Bool} {n : ℕ} → Some M P → ¬ Offered M P a → ((x : M .State) → Q x ↔ P x) → Told M Q b n → Moves M P (event a) (answer not-possible b n) Q
-  refuses : {a : ℕ} {Q : StateSet M} → ¬ Some M P → ((x : M .State) → Q x ↔ P x) → Moves M P (event a) refused-53 Q
+  restarts : {Q : StateSet M} {b : Bool} {n : ℕ} → SameMembers M Q (Fresh M) → Told M Q b n
+      → Moves M P restart (answer taken b n) Q
+  takes : {a : ℕ} {Q : StateSet M} {b : Bool} {n : ℕ}
+      → Offered M P a → SameMembers M Q (Next M P a) → Told M Q b n
+      → Moves M P (event a) (answer taken b n) Q
+  keeps : {a : ℕ} {Q : StateSet M} {b : Bool} {n : ℕ}
+      → Some M P → ¬ Offered M P a → SameMembers M Q P → Told M Q b n
+      → Moves M P (event a) (answer not-possible b n) Q
+  refuses : {a : ℕ} {Q : StateSet M} → ¬ Some M P → SameMembers M Q P → Moves M P (event a) refused-53 Q
 
 -- a list of calls, each on the members that the one before left, and their answers
 pub data Follows (M : System) : StateSet M → List Call → List Answer → Type 1 where
   none : {P : StateSet M} → Follows M P [] []
-  call : {P Q : StateSet M} {c : Call} {a : Answer} {cs : List Call} {answers : List Answer} → Moves M P c a Q → Follows M Q cs answers → Follows M P (c ∷ cs) (a ∷ answers)
-
--- a fresh start: the start alone
-abbrev pub Fresh : (M : System) → StateSet M
-Fresh M x = x ≡ M .start
+  call : {P Q : StateSet M} {c : Call} {a : Answer} {cs : List Call} {answers : List Answer}
+      → Moves M P c a Q → Follows M Q cs answers → Follows M P (c ∷ cs) (a ∷ answers)

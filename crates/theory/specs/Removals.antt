@@ -1,5 +1,5 @@
--- Taking out loops: the answer by the rule on standing transitions, the answer of a plain set of loops, and lists of calls
--- of both.
+-- Taking out loops: the answer by the rule on standing transitions, the answer of a plain set of loops, and lists of
+-- calls of both.
 use mathlib.Core.Path.{_≡_}
 use mathlib.Core.List.{List, [], _∷_, map}
 use Prim.Native.Nat.{ℕ}

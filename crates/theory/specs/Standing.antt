@@ -2,9 +2,8 @@
 use mathlib.Core.Path.{_≡_}
 use mathlib.Core.Logic.{_≢_, _⊎_, _↔_}
 use Prim.Native.Nat.{ℕ}
-use Rattle.theory.specs.Paths.{Plus}
 use Rattle.theory.specs.Charts.{Steps, SameSteps, Loop}
-use Rattle.theory.specs.LoopCharts.{InLoop}
+use Rattle.theory.specs.LoopCharts.{InBody}
 
 -- a set of loops: X v l says that the loop (v, l) is in it
 abbrev pub Loops : Type 1
@@ -29,4 +28,4 @@ Agree S X R = SameSteps R (Standing S X)
 
 -- a loop of the set starts inside the body of (v, l), and not at v
 abbrev pub Inside : Steps → Loops → ℕ → ℕ → Type 0
-Inside S X v l = (w m : ℕ) × X w m × (w ≢ v) × Plus (InLoop S v l) v w
+Inside S X v l = (w m : ℕ) × X w m × (w ≢ v) × InBody S v l w

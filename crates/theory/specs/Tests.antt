@@ -29,7 +29,8 @@ pub record Stops (p : ℕ → Bool) (i n r : ℕ) : Type 0 where
 unfoldable pub firstRow : (ℕ → ℕ → Bool) → ℕ → ℕ → ℕ
 firstRow p rows columns = lowest (λ u. someBelow (p u) columns) 0 rows
 
--- the pairs below rows and columns that pass, by row and then by column: of one row the n columns from v on, and the n rows from u on
+-- the pairs below rows and columns that pass, by row and then by column: of one row the n columns from v on, and the n
+-- rows from u on
 unfoldable pub rowPairs : (ℕ → ℕ → Bool) → ℕ → ℕ → ℕ → List (ℕ × ℕ)
 rowPairs p u v zero = []
 rowPairs p u v (suc n) = cond (p u v) ((u, v) ∷ rowPairs p u (suc v) n) (rowPairs p u (suc v) n)

@@ -16,7 +16,8 @@ abbrev pub Precedes : Transition → Transition → Type 0
 Precedes x y = (x .0 < y .0) ⊎ ((x .0 ≡ y .0) × ((x .1 < y .1) ⊎ ((x .1 ≡ y .1) × (x .2 < y .2))))
 
 unfoldable pub precedes : Transition → Transition → Bool
-precedes x y = ltb (x .0) (y .0) || (eqb (x .0) (y .0) && (ltb (x .1) (y .1) || (eqb (x .1) (y .1) && ltb (x .2) (y .2))))
+precedes x y =
+    ltb (x .0) (y .0) || (eqb (x .0) (y .0) && (ltb (x .1) (y .1) || (eqb (x .1) (y .1) && ltb (x .2) (y .2))))
 
 -- the chart with this start; vertex 0 is the end
 abbrev pub chart : ℕ → List Transition → System

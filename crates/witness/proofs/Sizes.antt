@@ -16,9 +16,9 @@ use Rattle.bits.specs.Sets.{halfOf, Empty, sizeOf}
 use Rattle.bits.specs.Tables.{rowOf, HasRow, Table}
 use Rattle.bits.proofs.Counts.{bit-uncounted}
 use Rattle.bits.proofs.Members.{low-has, high-has}
-use Rattle.theory.specs.Orders.{AllLoops}
+use Rattle.theory.specs.Orders.{Pair, AllLoops}
 use Rattle.theory.specs.Tests.{Decides, rowPairs, pairs}
-use Rattle.theory.proofs.Pairs.{Pair, pairs→, pairs←, pairs-distinct, distinct-map}
+use Rattle.theory.proofs.Pairs.{pairs→, pairs←, pairs-distinct, distinct-map}
 use Rattle.theory.proofs.Tests.{decides-eqb}
 use Rattle.report.specs.declared.Stage.the-variants as stage
 use Rattle.chart.specs.Checks.{checkOf}

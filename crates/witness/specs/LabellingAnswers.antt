@@ -3,12 +3,11 @@ use Prim.Native.Nat.{ℕ}
 use mathlib.Core.Path.{_≡_}
 use mathlib.Core.List.{List}
 use lib.ListN.{length}
-use Rattle.theory.specs.Paths.{Plus}
 use Rattle.theory.specs.Charts.{Loop}
-use Rattle.theory.specs.LoopCharts.{InLoop}
+use Rattle.theory.specs.LoopCharts as loops
 use Rattle.theory.specs.Witnesses.{Witness, Connected}
 use Rattle.theory.specs.Least.{Least}
-use Rattle.theory.specs.Checks.{Unreached, OnBranchCycle, NotLower, EarlierPass}
+use Rattle.theory.specs.Checks.{Unreached, OnBranchCycle, NoBranchCycle, NotLower, EarlierPass}
 use Rattle.theory.specs.Orders.{AllLoops}
 use Rattle.report.specs.declared.Labelled.{Labelled}
 use Rattle.report.specs.declared.Labelled.the-variants.{Passed, Refused}
@@ -29,13 +28,13 @@ module _ (b labels : List ℕ) where
   pub record FirstLoop (v l : ℕ) : Type 0 where
     pub long : Long
     pub reaches : Reaches
-    pub acyclic : (w : ℕ) → ¬ OnBranchCycle (StepsOf b labels) w
+    pub acyclic : NoBranchCycle (StepsOf b labels)
     pub is-loop : Loop (StepsOf b labels) v l
     pub earlier : EarlierPass (StepsOf b labels) v l
 
   -- w is in the body of the loop (v, l)
   abbrev pub InBody : ℕ → ℕ → ℕ → Type 0
-  InBody v l w = Plus (InLoop (StepsOf b labels) v l) v w
+  InBody v l w = loops.InBody (StepsOf b labels) v l w
 
   -- each answer, with its place
   pub data LabellingAnswer : Labelled → Type 0 where
