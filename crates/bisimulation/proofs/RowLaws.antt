@@ -16,10 +16,6 @@ use Rattle.bits.proofs.Powers.{has-past}
 use Rattle.bisimulation.specs.Relations.{rowBytes, relatedTest}
 use Rattle.bisimulation.specs.Answers.{Related}
 
--- a test whose value is false does not hold
-pub is-not : {x y : Bool} → x ≡ false → x ≡ y → ¬ (y ≡ true)
-is-not p q e = false≢true (sym p ∙ q ∙ e)
-
 -- a bit stands in a byte of its row
 bit-in : (relation : List ℕ) (u v : ℕ) → Related relation u v → v / 8 < length (rowBytes relation u)
 unfolding relatedTest

@@ -43,15 +43,6 @@ has-row a v w m = (
   (λ h. record { below = m; on = subst (λ (x : ℕ). On x (w % 64)) (sym (row-word a v w m)) h }),
 )
 
--- the words of a row
-pub row-lo : (a : List ℕ) (v : ℕ) → rowOf a v .lo ≡ getD a (2 * v) 0
-unfolding rowOf
-row-lo a v = refl
-
-pub row-hi : (a : List ℕ) (v : ℕ) → rowOf a v .hi ≡ getD a (2 * v + 1) 0
-unfolding rowOf
-row-hi a v = refl
-
 same-row : (a b : List ℕ) (v w : ℕ) → getD a (2 * v) 0 ≡ getD b (2 * w) 0 → getD a (2 * v + 1) 0 ≡ getD b (2 * w + 1) 0 → rowOf a v ≡ rowOf b w
 unfolding rowOf
 same-row a b v w e f = rw (e, f)

@@ -125,15 +125,6 @@ with-law x k = record { exactly = exactly; more = λ off. subset-lt x (bitOr x (
     exactly : (j : ℕ) → On (bitOr x (2 ^ k)) j ↔ (On x j ⊎ (j ≡ k))
     exactly j = ((λ on. there j (either-on x (2 ^ k) j .0 on)), (λ h. either-on x (2 ^ k) j .1 (back j h)))
 
-pub without-law : (x k : ℕ) → Without x k (bitXor x (bitAnd x (2 ^ k)))
-without-law x k = record { exactly = exactly; less = λ on. subset-lt (bitXor x (bitAnd x (2 ^ k))) x k (λ j h. but-on x (2 ^ k) j .0 h .0) on (λ h. but-on x (2 ^ k) k .0 h .1 (on-pow k)) }
-  where
-    exactly : (j : ℕ) → On (bitXor x (bitAnd x (2 ^ k))) j ↔ (On x j × (j ≢ k))
-    exactly j = (
-      (λ h. (but-on x (2 ^ k) j .0 h .0, λ e. but-on x (2 ^ k) j .0 h .1 (subst (λ (i : ℕ). On (2 ^ k) i) (sym e) (on-pow k)))),
-      (λ h. but-on x (2 ^ k) j .1 (h .0, λ on. h .1 (pow-on k j on))),
-    )
-
 -- 1 moved up by k places, within a word
 pub bit-worth : (k : ℕ) → k < 64 → (1 * 2 ^ k) % 18446744073709551616 ≡ 2 ^ k
 bit-worth k h = let p = pow-lt {i = k} {j = 64} h in let e : 1 * 2 ^ k ≡ 2 ^ k = omega arith in ap (λ (y : ℕ). y % 18446744073709551616) e ∙ mod-eq-of-lt p

@@ -100,14 +100,6 @@ pub fn with_bit(x: u64, k: usize) -> u64
     x | (1u64 << k)
 }
 
-// The word without bit k.
-pub fn without_bit(x: u64, k: usize) -> u64
-    requires { ⌜ k < 64 ⌝ }
-    ensures { λ r. ⌜ Without x k r ⌝ }
-{
-    x ^ (x & (1u64 << k))
-}
-
 // The word without its lowest bit.
 pub fn without_lowest(x: u64) -> u64
     requires { ⌜ x ≢ 0 ⌝ }

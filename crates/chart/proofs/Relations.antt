@@ -10,7 +10,7 @@ use native.Mathlib.Omega.{arith}
 use lib.ListN.{length, getD}
 use borrow.Author.Tests.{eq-eqb, lt-ltb, le-ltb}
 use Rattle.theory.specs.Ascending.{Ascending}
-use Rattle.theory.specs.Charts.{Formed, Listed, Any, Branch}
+use Rattle.theory.specs.Charts.{Formed, Listed, Any}
 use Rattle.theory.specs.Transitions.{Transition, precedes}
 use Rattle.theory.proofs.Search.{look-below}
 use Rattle.bits.specs.Bits.{Bytes}
@@ -132,29 +132,11 @@ steps-listed b labels B = record {
   decide = steps? b labels;
 }
 
--- what stands is among the steps; all of them where every byte is 1
+-- what stands is among the steps
 pub standing-step : {b labels standing : List ℕ} {u l w : ℕ} → StandingOf b labels standing u l w → StepsOf b labels u l w
 standing-step s = record { at = s .at; within = s .within; leaves = s .leaves; enters = s .enters; holds = record { is = s .holds .label } }
 
-pub standing-all : (b labels standing : List ℕ) → ((i : ℕ) → i < countOf b → getD standing i 0 ≡ 1) → (u l w : ℕ) → StandingOf b labels standing u l w ↔ StepsOf b labels u l w
-standing-all b labels standing h u l w = (
-  standing-step,
-  λ s. record { at = s .at; within = s .within; leaves = s .leaves; enters = s .enters; holds = record { label = s .holds .is; stands = h (s .at) (s .within) } },
-)
-
--- the kept transitions: all, the branches, those that stand
-pub kept-all : (b labels keep : List ℕ) → ((i : ℕ) → i < countOf b → getD keep i 0 ≡ 1) → (u w : ℕ) → Kept b keep u w ↔ Any (StepsOf b labels) u w
-kept-all b labels keep h u w = (
-  λ e. (getD labels (e .at) 0, record { at = e .at; within = e .within; leaves = e .leaves; enters = e .enters; holds = record { is = refl } }),
-  λ (l, s). record { at = s .at; within = s .within; leaves = s .leaves; enters = s .enters; holds = record { is = h (s .at) (s .within) } },
-)
-
-pub kept-branch : (b labels keep : List ℕ) → ((i : ℕ) → i < countOf b → (getD keep i 0 ≡ 1) ↔ (getD labels i 0 ≡ 0)) → (u w : ℕ) → Kept b keep u w ↔ Branch (StepsOf b labels) u w
-kept-branch b labels keep h u w = (
-  λ e. record { at = e .at; within = e .within; leaves = e .leaves; enters = e .enters; holds = record { is = h (e .at) (e .within) .0 (e .holds .is) } },
-  λ s. record { at = s .at; within = s .within; leaves = s .leaves; enters = s .enters; holds = record { is = h (s .at) (s .within) .1 (s .holds .is) } },
-)
-
+-- the kept transitions are those that stand
 pub kept-standing : (b labels standing : List ℕ) (u w : ℕ) → Kept b standing u w ↔ Any (StandingOf b labels standing) u w
 kept-standing b labels standing u w = (
   λ e. (getD labels (e .at) 0, record { at = e .at; within = e .within; leaves = e .leaves; enters = e .enters; holds = record { label = refl; stands = e .holds .is } }),

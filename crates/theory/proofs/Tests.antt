@@ -120,15 +120,6 @@ lowest-stops p i (suc n) = go (p i) refl (lowest-stops p (suc i) n)
       below = λ k a b. elim (ℕ-discrete k i) [ yes q ↦ rw q e | no q ↦ s .below k (omega arith) b ];
     }
 
--- where a search stops is determined
-pub one-stop : {p : ℕ → Bool} {i n r s : ℕ} → Stops p i n r → Stops p i n s → r ≡ s
-one-stop {p} {i} {n} {r} {s} a b = go (ltb r s) (ltb s r) refl refl
-  where
-    go : (x y : Bool) → ltb r s ≡ x → ltb s r ≡ y → r ≡ s
-    go true y e f = absurd (false≢true (sym (b .below r (a .from) (ltb-true r s e)) ∙ a .passes (omega (arith, ltb-true r s e, b .within))))
-    go false true e f = absurd (false≢true (sym (a .below s (b .from) (ltb-true s r f)) ∙ b .passes (omega (arith, ltb-true s r f, a .within))))
-    go false false e f = let g : ¬ (r < s) = not-so (decides-ltb r s) e in let h : ¬ (s < r) = not-so (decides-ltb s r) f in omega arith
-
 -- the lowest with P, or none has it
 pub stops-least : {p : ℕ → Bool} {P : ℕ → Type 0} → ((k : ℕ) → Decides (p k) (P k)) → {n r : ℕ} → Stops p 0 n r → (r < n → Least P r) × (n ≤ r → (k : ℕ) → k < n → ¬ P k)
 stops-least d s = (
