@@ -1,7 +1,7 @@
 //! The proved library and the plain checker on many files.
 mod common;
 mod proved;
-use common::{chart, files, g};
+use common::{chart, files, first_body, g};
 use oracle::gen::{self, Rng, Yard, CHECK_REFUSALS};
 use oracle::{plain, Answer};
 use std::collections::BTreeMap;
@@ -57,15 +57,6 @@ fn same_charts(nodes: &[u8], seen: &mut Seen, origin: &dyn Display) {
     for lent in [needed + 1, needed, needed - 1, 0] {
         count(seen, same_chart(nodes, lent, origin));
     }
-}
-
-/// What the first record holds, as far as the file goes.
-fn first_body(file: &[u8]) -> &[u8] {
-    let Some((length, rest)) = file.split_first_chunk::<2>() else {
-        return &[];
-    };
-    let body = rest.get(2..).unwrap_or(&[]);
-    &body[..body.len().min(u16::from_le_bytes(*length).into())]
 }
 
 /// The corpus has other seeds than that of agreement.rs.

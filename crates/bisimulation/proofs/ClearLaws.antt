@@ -1,197 +1,177 @@
 -- 43 to 45 by the tables: what the loops of the search keep, and that what it lets pass does pass.
 use mathlib.Core.Path.{_≡_, refl, sym, subst}
-use mathlib.Core.Logic.{_⊎_, inl, inr, _↔_, by-cases}
-use mathlib.Core.Bool.{Bool, true, false, _&&_, false≢true}
-use mathlib.Core.List.{List, [], _∷_}
-use Prim.Native.Nat.{ℕ, _+_, _*_, _/_, _%_, _^_, _≤_, _<_}
+use mathlib.Core.Logic.{_≢_, _⊎_, inl, inr, ⊎-elim, _↔_, by-cases}
+use mathlib.Core.List.{List}
+use Prim.Native.Nat.{ℕ, _+_, _/_, _%_, _^_, _≤_, _<_}
 use native.Mathlib.Decide.{ℕ-discrete}
 use native.Mathlib.Omega.{arith}
-use lib.Dec.{eqb}
-use lib.ListN.{getD, set, replicate}
-use borrow.Author.Tests.{eqb-true}
-use Rattle.theory.specs.Relations.{AllMatched, converse}
+use lib.ListN.{length, getD, replicate}
+use Rattle.theory.specs.Systems.{converse}
+use Rattle.theory.specs.Relations.{AllMatched}
 use Rattle.bits.specs.Bits.{Bytes}
-use Rattle.bits.specs.Words.{On, With, Without, Has, HasRow}
-use Rattle.bits.specs.Unions.{United}
-use Rattle.bits.proofs.Sets.{zero-off, none, has-both, has-but, with-low, has-low}
+use Rattle.bits.specs.declared.sets.Set.{Set}
+use Rattle.bits.specs.Words.{On}
+use Rattle.bits.specs.Sets.{Has, emptySet, Empty, Members, Intersection, Difference}
+use Rattle.bits.specs.Tables.{rowOf, HasRow, putRow, Table, InSome}
+use Rattle.bits.proofs.Members.{zero-off, none, low-has, has-low, has?}
+use Rattle.bits.proofs.Gains.{put-long, put-here, put-other}
 use Rattle.chart.specs.Bodies.{verticesOf, actionOf, toOf, WellFormed}
-use Rattle.chart.specs.Leaving.{Rows}
-use Rattle.chart.specs.Sets.{RowPut}
+use Rattle.chart.specs.Leaving.{Begins}
 use Rattle.chart.proofs.Order.{at-mid, between}
+use Rattle.bisimulation.specs.declared.clearing.Matches.{Matches}
 use Rattle.bisimulation.specs.Relations.{indexedOf}
-use Rattle.bisimulation.specs.Answers.{Related, Fits, Passes}
-use Rattle.bisimulation.specs.Suspects.{Columns, Users, Used, Match, Walked, Cleared, SameEnds, Refusable, Gathered}
-use Rattle.bisimulation.specs.Pairs.{Told, Sought}
+use Rattle.bisimulation.specs.Answers.{Related, RelationFits, Passes}
+use Rattle.bisimulation.specs.Suspects.{Acting, UsedBy, Used, Tabled, Match, MatchedIn, Able, Walked, Cleared, SameEnd, Refusable, Gathered}
+use Rattle.bisimulation.specs.Pairs.{StepTables, Sought}
 use Rattle.bisimulation.proofs.StepLaws.{step-of, at-step, match-low, is-matched}
 
--- `matching`: x and y are the target and the action that the code reads
-pub match-read : (into acting body : List ℕ) (i r : ℕ) {x y : ℕ} → x ≡ toOf body i → y ≡ actionOf body i → ((j : ℕ) → On r j ↔ (On (getD into (2 * x) 0) j × On (getD acting y 0) j)) → (k : ℕ) → On r k ↔ Match into acting body i k
-match-read into acting body i r e f h = rw (← e, ← f) h
-
--- the test of `refusable` for an empty set
-pub both-zero : (lo hi : ℕ) → (eqb lo 0 && eqb hi 0) ≡ true → (lo ≡ 0) × (hi ≡ 0)
-both-zero lo hi h = go (eqb lo 0) (eqb hi 0) refl refl h
+-- `matching`: x and y are the target and the action that the code reads, and s is the set of the target
+pub match-read : (into acting body : List ℕ) (i r : ℕ) {x y : ℕ} {s : Set} → ((k : ℕ) → On (getD acting y 0) k → k < 64) → x ≡ toOf body i → y ≡ actionOf body i → s ≡ rowOf into x → ((j : ℕ) → On r j ↔ (On (s .lo) j × On (getD acting y 0) j)) → (k : ℕ) → On r k ↔ Match into acting body i k
+match-read into acting body i r {x} {y} {s} low e f g h k = ((λ on. there (h k .0 on)), back)
   where
-    go : (p q : Bool) → eqb lo 0 ≡ p → eqb hi 0 ≡ q → (p && q) ≡ true → (lo ≡ 0) × (hi ≡ 0)
-    go true true e f h = (eqb-true lo 0 e, eqb-true hi 0 f)
-    go true false e f h = absurd (false≢true h)
-    go false q e f h = absurd (false≢true h)
+    there : On (s .lo) k × On (getD acting y 0) k → Match into acting body i k
+    there (p, q) = (rw (g, e) at (low-has s k (low k q) p), rw f at q)
+
+    back : Match into acting body i k → On r k
+    back (p, q) = let b : On (getD acting y 0) k = rw f q in let a : Has s k = rw (g, e) p in h k .1 (has-low s k (low k b) a, b)
 
 -- `walk`: the transitions from a to i; each row left has a step of the last word
-pub record Walking (into acting users body : List ℕ) (a lo hi matched last able-lo able-hi i : ℕ) : Type 0 where
+pub record Walking (into acting users body : List ℕ) (a : ℕ) (set : Set) (matched last : ℕ) (able : Set) (i : ℕ) : Type 0 where
   pub from : a ≤ i
-  pub matches : (k : ℕ) → On matched k → (j : ℕ) × (a ≤ j) × (j < i) × Match into acting body j k
-  pub given : (u : ℕ) → Has able-lo able-hi u → Has lo hi u
-  pub able : (u : ℕ) → Has able-lo able-hi u → (j : ℕ) → a ≤ j → j < i → (k : ℕ) × Match into acting body j k × HasRow users k u
-  pub same : (u : ℕ) → Has able-lo able-hi u → (k : ℕ) × On last k × HasRow users k u
+  pub matches : (k : ℕ) → On matched k → MatchedIn into acting body a i k
+  pub given : (u : ℕ) → Has able u → Has set u
+  pub all : (u : ℕ) → Has able u → (j : ℕ) → a ≤ j → j < i → Able into acting users body j u
+  pub same : (u : ℕ) → Has able u → InSome users last u
 
 -- no transition at all
-pub walk-none : (into acting users body : List ℕ) {a b : ℕ} (lo hi : ℕ) → b ≤ a → Walked into acting users body a b lo hi (0 ∷ lo ∷ hi ∷ [])
-walk-none into acting users body lo hi l = record {
-  long = refl;
-  matched = λ k on. absurd (zero-off k on);
-  given = λ u h. h;
-  able = λ u h i f g. absurd (omega arith);
-}
+pub walk-none : (into acting users body : List ℕ) {a b : ℕ} (set : Set) → b ≤ a → Walked into acting users body a b set (record { matched = 0; able = set })
+walk-none into acting users body set l = record { matched = λ k on. absurd (zero-off k on); given = λ u h. h; able = λ u h i f g. absurd (omega arith) }
 
--- the first one
-pub walk-first : (into acting users body : List ℕ) (a lo hi first able-lo able-hi : ℕ) (set : List ℕ) → ((k : ℕ) → On first k ↔ Match into acting body a k) → United users first set → ((j : ℕ) → On able-lo j ↔ (On lo j × On (getD set 0 0) j)) → ((j : ℕ) → On able-hi j ↔ (On hi j × On (getD set 1 0) j)) → Walking into acting users body a lo hi first first able-lo able-hi (a + 1)
-walk-first into acting users body a lo hi first able-lo able-hi set E U L H = record {
+-- the rows with a step of a word
+steps-in : (users : List ℕ) (x : ℕ) {s t r : Set} → Members (InSome users x) t → Intersection s t r → (u : ℕ) → Has r u → InSome users x u
+steps-in users x U I u h = U .exactly u (h .below) .0 (I u .0 h .1)
+
+-- the first one: the rows with a step for it are what the loop begins with
+pub walk-first : (into acting users body : List ℕ) (a first : ℕ) {set union able : Set} → ((k : ℕ) → On first k ↔ Match into acting body a k) → Members (InSome users first) union → Intersection set union able → Walking into acting users body a able first first able (a + 1)
+walk-first into acting users body a first E U I = record {
   from = omega arith;
   matches = λ k on. (a, omega arith, omega arith, E k .0 on);
-  given = λ u h. inner u .0 h .0;
-  able = λ u h j l m. let (k, on, r) = steps u h in let e : j ≡ a = omega arith in (k, subst (λ (n : ℕ). Match into acting body n k) (sym e) (E k .0 on), r);
-  same = steps;
+  given = λ u h. h;
+  all = λ u h j l m. let (k, on, r) = steps-in users first U I u h in let e : j ≡ a = omega arith in (k, subst (λ (n : ℕ). Match into acting body n k) (sym e) (E k .0 on), r);
+  same = steps-in users first U I;
 }
-  where
-    inner : (u : ℕ) → Has able-lo able-hi u ↔ (Has lo hi u × Has (getD set 0 0) (getD set 1 0) u)
-    inner = has-both lo hi (getD set 0 0) (getD set 1 0) able-lo able-hi L H
 
-    steps : (u : ℕ) → Has able-lo able-hi u → (k : ℕ) × On first k × HasRow users k u
-    steps u h = U .exactly u .0 (inner u .0 h .1)
-
-module _ {into acting users body : List ℕ} {a lo hi matched last able-lo able-hi i : ℕ} (S : Walking into acting users body a lo hi matched last able-lo able-hi i) where
-  pub walk-all : {b : ℕ} → b ≤ i → i ≤ b → Walked into acting users body a b lo hi (matched ∷ able-lo ∷ able-hi ∷ [])
-  walk-all {b} l m = record {
-    long = refl;
+module _ {into acting users body : List ℕ} {a : ℕ} {set : Set} {matched last : ℕ} {able : Set} {i : ℕ} (S : Walking into acting users body a set matched last able i) where
+  pub walk-all : {b : ℕ} {all union : Set} → Intersection all union set → b ≤ i → i ≤ b → Walked into acting users body a b all (record { matched = matched; able = able })
+  walk-all I l m = record {
     matched = λ k on. let (j, f, h, M) = S .matches k on in (j, f, omega arith, M);
-    given = S .given;
-    able = λ u h j f g. S .able u h j f (omega arith);
+    given = λ u h. I u .0 (S .given u h) .0;
+    able = λ u h j f g. S .all u h j f (omega arith);
   }
 
   -- the rows and steps of transition i too, where each row left has a step for it
   module _ (next : ℕ) (E : (k : ℕ) → On next k ↔ Match into acting body i k) where
-    on-to : (lo′ hi′ : ℕ) → ((u : ℕ) → Has lo′ hi′ u → Has able-lo able-hi u) → ((u : ℕ) → Has lo′ hi′ u → (k : ℕ) × On next k × HasRow users k u) → (u : ℕ) → Has lo′ hi′ u → (j : ℕ) → a ≤ j → j < i + 1 → (k : ℕ) × Match into acting body j k × HasRow users k u
-    on-to lo′ hi′ f g u h j l m =
+    on-to : (rest : Set) → ((u : ℕ) → Has rest u → Has able u) → ((u : ℕ) → Has rest u → InSome users next u) → (u : ℕ) → Has rest u → (j : ℕ) → a ≤ j → j < i + 1 → Able into acting users body j u
+    on-to rest f g u h j l m =
         by-cases (ℕ-discrete j i)
         (λ e. let (k, on, r) = g u h in (k, subst (λ (n : ℕ). Match into acting body n k) (sym e) (E k .0 on), r))
-        (λ e. S .able u (f u h) j l (omega arith))
+        (λ e. S .all u (f u h) j l (omega arith))
 
-    pub walk-same : next ≡ last → Walking into acting users body a lo hi matched last able-lo able-hi (i + 1)
+    pub walk-same : next ≡ last → Walking into acting users body a set matched last able (i + 1)
     walk-same e = record {
       from = omega (arith, S .from);
       matches = λ k on. let (j, f, h, M) = S .matches k on in (j, f, omega arith, M);
       given = S .given;
-      able = on-to able-lo able-hi (λ u h. h) (λ u h. rw e (S .same u h));
+      all = on-to able (λ u h. h) (λ u h. rw e (S .same u h));
       same = S .same;
     }
 
-    module _ (matched′ able-lo′ able-hi′ : ℕ) (set : List ℕ) (U : United users next set) (O : (j : ℕ) → On matched′ j ↔ (On matched j ⊎ On next j)) (L : (j : ℕ) → On able-lo′ j ↔ (On able-lo j × On (getD set 0 0) j)) (H : (j : ℕ) → On able-hi′ j ↔ (On able-hi j × On (getD set 1 0) j)) where
-      inner : (u : ℕ) → Has able-lo′ able-hi′ u ↔ (Has able-lo able-hi u × Has (getD set 0 0) (getD set 1 0) u)
-      inner = has-both able-lo able-hi (getD set 0 0) (getD set 1 0) able-lo′ able-hi′ L H
+    pub walk-more : (matched′ : ℕ) {union able′ : Set} → ((j : ℕ) → On matched′ j ↔ (On matched j ⊎ On next j)) → Members (InSome users next) union → Intersection able union able′ → Walking into acting users body a set matched′ next able′ (i + 1)
+    walk-more matched′ {union} {able′} O U I = record {
+      from = omega (arith, S .from);
+      matches = λ k on. found k (O k .0 on);
+      given = λ u h. S .given u (I u .0 h .0);
+      all = on-to able′ (λ u h. I u .0 h .0) (steps-in users next U I);
+      same = steps-in users next U I;
+    }
+      where
+        found : (k : ℕ) → On matched k ⊎ On next k → MatchedIn into acting body a (i + 1) k
+        found k (inl on) = let (j, f, h, M) = S .matches k on in (j, f, omega arith, M)
+        found k (inr on) = (i, S .from, omega arith, E k .0 on)
 
-      steps : (u : ℕ) → Has able-lo′ able-hi′ u → (k : ℕ) × On next k × HasRow users k u
-      steps u h = U .exactly u .0 (inner u .0 h .1)
-
-      pub walk-more : Walking into acting users body a lo hi matched′ next able-lo′ able-hi′ (i + 1)
-      walk-more = record {
-        from = omega (arith, S .from);
-        matches = λ k on. found k (O k .0 on);
-        given = λ u h. S .given u (inner u .0 h .0);
-        able = on-to able-lo′ able-hi′ (λ u h. inner u .0 h .0) steps;
-        same = steps;
-      }
-        where
-          found : (k : ℕ) → On matched k ⊎ On next k → (j : ℕ) × (a ≤ j) × (j < i + 1) × Match into acting body j k
-          found k (inl on) = let (j, f, h, M) = S .matches k on in (j, f, omega arith, M)
-          found k (inr on) = (i, S .from, omega arith, E k .0 on)
+-- what the tables are
+pub tabled : {keys into acting body : List ℕ} {m : ℕ} → length into ≡ 256 → Acting keys m acting → m ≤ 64 → WellFormed body → Tabled into acting body
+tabled l A few W = record { into-long = l; acting-long = A .long; low = λ a k h on. omega (arith, A .exactly a k h .0 on .0); formed = W }
 
 -- 43 as sets
-pub ends-zero : {v r : ℕ} → v ≡ 0 → With 0 0 r → SameEnds v (r ∷ 0 ∷ [])
-ends-zero {v} {r} e W = record { long = refl; ends = λ u l h. ((λ f. e), (λ f. only u (with-low 0 0 0 r (omega arith) W u .0 h))) }
+pub ends-zero : {v : ℕ} {set zero one r : Set} → v ≡ 0 → zero ≡ emptySet → ((y : ℕ) → Has one y ↔ (Has zero y ⊎ (y ≡ 0))) → Intersection set one r → Members (SameEnd v set) r
+ends-zero {v} {set} {zero} {one} {r} e z W I = record { exactly = λ u l. (there u, λ (h, A). I u .1 (h, W u .1 (inr (A .1 e)))) }
   where
-    only : (u : ℕ) → Has 0 0 u ⊎ (u ≡ 0) → u ≡ 0
-    only u (inl h) = absurd (none u h)
-    only u (inr f) = f
+    there : (u : ℕ) → Has r u → SameEnd v set u
+    there u h = let (g, o) = I u .0 h in (g, ((λ f. e), (λ f. ⊎-elim (λ n. absurd (none u (rw z at n))) (λ q. q) (W u .0 o))))
 
-pub ends-other : {v x r hi : ℕ} → ¬ (v ≡ 0) → Without x 0 r → SameEnds v (r ∷ hi ∷ [])
-ends-other {v} {x} {r} {hi} n W = record { long = refl; ends = λ u l h. ((λ e. absurd (W .exactly 0 .0 (has-low r hi 0 (omega arith) (subst (Has r hi) e h)) .1 refl)), (λ e. absurd (n e))) }
+pub ends-other : {v : ℕ} {set r : Set} → ¬ (v ≡ 0) → ((y : ℕ) → Has r y ↔ (Has set y × (y ≢ 0))) → Members (SameEnd v set) r
+ends-other {v} {set} {r} n W = record { exactly = λ u l. (there u, λ (h, A). W u .1 (h, λ e. n (A .0 e))) }
+  where
+    there : (u : ℕ) → Has r u → SameEnd v set u
+    there u h = let (g, m) = W u .0 h in (g, ((λ e. absurd (m e)), (λ e. absurd (n e))))
 
--- whether a number is in a set is decided
-stable : (lo hi u : ℕ) → ¬ ¬ Has lo hi u → Has lo hi u
-stable lo hi u f = by-cases (ℕ-discrete _ 1) (λ h. h) (λ h. absurd (f h))
+-- `refusable`
+pub refuse-none : (into acting users : List ℕ) (used : ℕ) (body : List ℕ) (v : ℕ) {set : Set} → Empty set → Refusable into acting users used body v set set
+refuse-none into acting users used body v f = record { given = λ u h. h; others = λ u h n. absurd (f u h) }
 
-pub refuse-none : (into acting users : List ℕ) (used : ℕ) (body : List ℕ) (v : ℕ) {lo hi : ℕ} → lo ≡ 0 → hi ≡ 0 → Refusable into acting users used body v lo hi (0 ∷ 0 ∷ [])
-refuse-none into acting users used body v e f = record { long = refl; given = λ u h. absurd (none u h); others = λ u l h n. absurd (none u (rw (e, f) at h)) }
-
-module _ {into acting users body rows : List ℕ} {used v : ℕ} (R : Rows body rows) (low : v < 128) {ends walked : List ℕ} (D : SameEnds v ends) (K : Walked into acting users body (getD rows v 0) (getD rows (v + 1) 0) (getD ends 0 0) (getD ends 1 0) walked) where
+module _ {into acting users body begins : List ℕ} {used v : ℕ} (R : Begins body begins) (low : v < 128) {set ends : Set} {walked : Matches} (D : Members (SameEnd v set) ends) (K : Walked into acting users body (getD begins v 0) (getD begins (v + 1) 0) ends walked) where
   -- a row that is able, and has no step that is left over
-  clears : {rest : ℕ} {unmatched : List ℕ} → ((j : ℕ) → On rest j ↔ (On used j × (¬ On (getD walked 0 0) j))) → United users rest unmatched → (u : ℕ) → u < 128 → Has (getD walked 1 0) (getD walked 2 0) u → ¬ Has (getD unmatched 0 0) (getD unmatched 1 0) u → Cleared into acting users used body u v
-  clears {rest} {unmatched} O U u l h n = record {
-    ends = D .ends u l (K .given u h);
+  clears : (rest : ℕ) {unmatched : Set} → ((j : ℕ) → On rest j ↔ (On used j × (¬ On (walked .matched) j))) → Members (InSome users rest) unmatched → (u : ℕ) → Has (walked .able) u → ¬ Has unmatched u → Cleared into acting users used body u v
+  clears rest {unmatched} O U u h n = record {
+    ends = D .exactly u (h .below) .0 (K .given u h) .1;
     forth = λ k on r.
-        by-cases (ℕ-discrete (getD walked 0 0 / 2 ^ k % 2) 1)
+        by-cases (ℕ-discrete (walked .matched / 2 ^ k % 2) 1)
         (λ m. let (i, f, g, M) = K .matched k m in (i, omega (arith, R .split (v + 1) (omega arith) .within), at-mid (R .split v (omega arith)) (R .split (v + 1) (omega arith)) i f g, M))
-        (λ m. absurd (n (U .exactly u .1 (k, O k .1 (on, m), r))));
+        (λ m. absurd (n (U .exactly u (h .below) .1 (k, O k .1 (on, m), r))));
     back = λ i f g. let (p, q) = between (R .split v (omega arith)) (R .split (v + 1) (omega arith)) i f g in K .able u h i p q;
   }
 
-  pub refuse-some : (clear-lo clear-hi : ℕ) {rest low′ high′ lo hi : ℕ} {unmatched : List ℕ} → ((j : ℕ) → On rest j ↔ (On used j × (¬ On (getD walked 0 0) j))) → United users rest unmatched → ((j : ℕ) → On clear-lo j ↔ (On (getD walked 1 0) j × (¬ On (getD unmatched 0 0) j))) → ((j : ℕ) → On low′ j ↔ (On lo j × (¬ On clear-lo j))) → ((j : ℕ) → On clear-hi j ↔ (On (getD walked 2 0) j × (¬ On (getD unmatched 1 0) j))) → ((j : ℕ) → On high′ j ↔ (On hi j × (¬ On clear-hi j))) → Refusable into acting users used body v lo hi (low′ ∷ high′ ∷ [])
-  refuse-some clear-lo clear-hi {rest} {low′} {high′} {lo} {hi} {unmatched} O U A B C E = record { long = refl; given = λ u h. without u .0 h .0; others = others }
+  pub refuse-some : (rest : ℕ) {unmatched clear r : Set} → ((j : ℕ) → On rest j ↔ (On used j × (¬ On (walked .matched) j))) → Members (InSome users rest) unmatched → Difference (walked .able) unmatched clear → Difference set clear r → Refusable into acting users used body v set r
+  refuse-some rest {unmatched} {clear} {r} O U A B = record { given = λ u h. B u .0 h .0; others = others }
     where
-      without : (u : ℕ) → Has low′ high′ u ↔ (Has lo hi u × (¬ Has clear-lo clear-hi u))
-      without = has-but lo hi clear-lo clear-hi low′ high′ B E
-
-      others : (u : ℕ) → u < 128 → Has lo hi u → ¬ Has low′ high′ u → Cleared into acting users used body u v
-      others u l h n =
-          let c = stable clear-lo clear-hi u (λ m. n (without u .1 (h, m))) in
-          let (x, y) = has-but (getD walked 1 0) (getD walked 2 0) (getD unmatched 0 0) (getD unmatched 1 0) clear-lo clear-hi A C u .0 c in
-          clears O U u l x y
+      others : (u : ℕ) → Has set u → ¬ Has r u → Cleared into acting users used body u v
+      others u h n =
+          by-cases (has? clear u)
+          (λ c. let (x, y) = A u .0 c in clears rest O U u x y)
+          (λ c. absurd (n (B u .1 (h, c))))
 
 -- `gather`: the first n vertices
 pub gather-none : (columns into acting users : List ℕ) (used : ℕ) (body : List ℕ) → Gathered columns into acting users used body 0 (replicate {A = ℕ} 256 0)
-gather-none columns into acting users used body = record { long = refl; given = λ u v m. absurd (omega arith); others = λ u v l m. absurd (omega arith) }
+gather-none columns into acting users used body = record { long = refl; given = λ u v m. absurd (omega arith); others = λ u v m. absurd (omega arith) }
 
-pub gather-more : {columns into acting users body t more both : List ℕ} {used v : ℕ} → Gathered columns into acting users used body v t → Refusable into acting users used body v (getD columns (2 * v) 0) (getD columns (2 * v + 1) 0) more → RowPut t v (getD more 0 0) (getD more 1 0) both → Gathered columns into acting users used body (v + 1) both
-gather-more {columns} {into} {acting} {users} {body} {t} {more} {both} {used} {v} G R P = record { long = P .long; given = given; others = others }
+pub gather-more : {columns into acting users body t both : List ℕ} {used v : ℕ} {set more : Set} → Gathered columns into acting users used body v t → v < 128 → set ≡ rowOf columns v → Refusable into acting users used body v set more → both ≡ putRow t v more → Gathered columns into acting users used body (v + 1) both
+gather-more {columns} {into} {acting} {users} {body} {t} {both} {used} {v} {set} {more} G low q R P = rw P (record { long = rw (put-long t v more) (G .long); given = given; others = others })
   where
-    new : (u w : ℕ) → w ≡ v → HasRow both w u ↔ Has (getD more 0 0) (getD more 1 0) u
-    new u w e = subst (λ (x : ℕ). HasRow both x u ↔ Has (getD more 0 0) (getD more 1 0) u) (sym e) (rw (P .low, P .high) ((λ h. h), (λ h. h)))
+    here : (w : ℕ) → w ≡ v → rowOf (putRow t v more) w ≡ more
+    here w e = rw e (put-here t v more (omega (arith, G .long)))
 
-    old : (u w : ℕ) → ¬ (w ≡ v) → HasRow both w u ↔ HasRow t w u
-    old u w e = let o = P .others w e in rw (o .0, o .1) ((λ h. h), (λ h. h))
-
-    given : (u w : ℕ) → w < v + 1 → HasRow both w u → HasRow columns w u
+    given : (u w : ℕ) → w < v + 1 → HasRow (putRow t v more) w u → HasRow columns w u
     given u w m h =
         by-cases (ℕ-discrete w v)
-        (λ e. subst (λ (x : ℕ). HasRow columns x u) (sym e) (R .given u (new u w e .0 h)))
-        (λ e. G .given u w (omega arith) (old u w e .0 h))
+        (λ e. rw (e, ← q) (R .given u (rw (here w e) at h)))
+        (λ e. G .given u w (omega arith) (rw (put-other t v more w e) at h))
 
-    others : (u w : ℕ) → u < 128 → w < v + 1 → HasRow columns w u → ¬ HasRow both w u → Cleared into acting users used body u w
-    others u w l m h n =
+    others : (u w : ℕ) → w < v + 1 → HasRow columns w u → ¬ HasRow (putRow t v more) w u → Cleared into acting users used body u w
+    others u w m h n =
         by-cases (ℕ-discrete w v)
-        (λ e. subst (Cleared into acting users used body u) (sym e) (R .others u l (subst (λ (x : ℕ). HasRow columns x u) e h) (λ z. n (new u w e .1 z))))
-        (λ e. G .others u w l (omega arith) h (λ z. n (old u w e .1 z)))
+        (λ e. subst (Cleared into acting users used body u) (sym e) (R .others u (rw q (subst (λ (x : ℕ). HasRow columns x u) e h)) (λ z. n (rw (here w e) z))))
+        (λ e. G .others u w (omega arith) h (λ z. n (rw (put-other t v more w e) z)))
 
 -- what the tables let pass does pass, of every chart whose steps are so numbered
-module _ {into acting words users body e relation : List ℕ} {rows used : ℕ} (B : Bytes body) (W : WellFormed body) (T : Told into acting words e relation) (U : Users words rows users) (all : Used words rows used) where
+module _ {into acting words users body e relation : List ℕ} {rows used : ℕ} (B : Bytes body) (W : WellFormed body) (T : StepTables into acting words e relation) (few : rows ≤ 128) (U : Table 64 (UsedBy words rows) users) (all : Used words rows used) where
   cleared-passes : (u v : ℕ) → u < rows → Cleared into acting users used body u v → Passes e body relation u v
   cleared-passes u v l C = record { c43 = C .ends; c44 = forth; c45 = back }
     where
       forth : AllMatched (indexedOf e) (indexedOf body) (Related relation) u v
       forth i h f =
           let (k, low, a, t, on) = step-of T u i h f in
-          let (j, g, p, M) = C .forth k (all u k l on) (U .exactly k u (omega (arith, T .numbered .coded .few)) l .1 on) in
+          let (j, g, p, M) = C .forth k (all u k l on) (U .exactly k u (omega (arith, T .numbered .coded .few)) (omega arith) .1 (l, on)) in
           let (q, r) = is-matched B W T i k j a t g M in
           (j, g, p, q, r)
 
@@ -199,16 +179,16 @@ module _ {into acting words users body e relation : List ℕ} {rows used : ℕ} 
       back j h f =
           let (k, M, r) = C .back j h f in
           let low = match-low B W T j k h M in
-          let (i, g, p, a, t) = at-step T u k (U .exactly k u (omega (arith, T .numbered .coded .few)) l .0 r) in
+          let (i, g, p, a, t) = at-step T u k (U .exactly k u (omega (arith, T .numbered .coded .few)) (r .below) .0 r .1) in
           let (q, s) = is-matched B W T i k j a t h M in
           (i, g, p, sym q, s)
 
-  pub sought : {columns table : List ℕ} → rows ≤ 128 → verticesOf e ≡ rows → Columns relation columns → Gathered columns into acting users used body (verticesOf body) table → Fits e body relation → Sought into acting words table body e relation
-  sought h q C G F = record {
-    told = T;
+  pub sought : {columns table : List ℕ} → verticesOf e ≡ rows → Table 128 (converse (Related relation)) columns → Gathered columns into acting users used body (verticesOf body) table → RelationFits e body relation → Sought into acting words table body e relation
+  sought q C G F = record {
+    tables = T;
     fits = F;
-    given = λ u v l m t. C .exactly u v l (omega (arith, W .header .vertices-high)) .0 (G .given u v m t);
+    given = λ u v m t. C .exactly v u (omega (arith, W .header .vertices-high)) (t .below) .0 (G .given u v m t);
     others = λ u v r n.
         let (l, m) = F .inside u v r in
-        cleared-passes u v (omega arith) (G .others u v (omega arith) m (C .exactly u v (omega arith) (omega (arith, W .header .vertices-high)) .1 r) n);
+        cleared-passes u v (omega arith) (G .others u v m (C .exactly v u (omega (arith, W .header .vertices-high)) (omega arith) .1 r) n);
   }

@@ -1,5 +1,5 @@
 -- The laws.
-pub mod Rows
+pub mod RowLaws
 pub mod PairChecks
 pub mod Relations
 pub mod Openings

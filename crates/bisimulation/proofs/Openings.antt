@@ -1,43 +1,124 @@
--- 40 to 42, and what holds once they pass.
-use mathlib.Core.Path.{_≡_, refl, sym, _∙_}
-use mathlib.Core.Bool.{Bool, true, false}
+-- 40 to 42: the code's answer is that of the test, 43 to 45 come after it, and where a chart has the numbers have one answer.
+use mathlib.Core.Path.{_≡_, refl, sym, _∙_, ap}
+use mathlib.Core.Bool.{Bool, true, false, cond}
 use mathlib.Core.List.{List}
-use Prim.Native.Nat.{ℕ, _*_}
+use Prim.Native.Nat.{ℕ, _*_, _≤_}
 use native.Mathlib.Omega.{arith}
+use lib.Dec.{eqb, ltb}
 use lib.ListN.{length}
-use Rattle.theory.specs.Relations.{starts-apart, fails-42}
+use borrow.Author.Tests.{ltb-true, ltb-false, eqb-true, eq-eqb, ne-eqb}
+use Rattle.theory.specs.Least.{FirstPair}
+use Rattle.theory.specs.Tests.{firstRow, lowest}
+use Rattle.theory.specs.RelationTests.{relationOutcome}
 use Rattle.report.specs.declared.Place.{Place}
-use Rattle.report.specs.declared.Place.the-variants.{RelationLength, PairStarts}
+use Rattle.report.specs.declared.Place.the-variants.{RelationLength, PairNoVertex, PairStarts}
 use Rattle.report.specs.declared.Stage.{Stage}
 use Rattle.report.specs.declared.Stage.the-variants.{Passed, Refused}
+use Rattle.chart.proofs.Checks.{well-formed}
 use Rattle.chart.specs.Bodies.{verticesOf, startOf}
-use Rattle.bisimulation.specs.Relations.{relatedTest, relationOf}
-use Rattle.bisimulation.specs.Answers.{StrayAnswer, Fits, OpeningAnswer}
-use Rattle.bisimulation.proofs.Rows.{is-not}
+use Rattle.chart.specs.Leaving.{whenPassed}
+use Rattle.bisimulation.specs.Relations.{relatedTest, strayBitTest, relationStage, relationOutcomeOf, relationOf, openingOf}
+use Rattle.bisimulation.specs.Answers.{Related, StrayBit, StrayAnswer, RelationFits, SomeChart, PairsAnswer}
 use Rattle.bisimulation.proofs.PairChecks.{passed-refused}
-use Rattle.bisimulation.proofs.Relations.{fails-40, fails-41, fitting, fits-after, relation-of}
+use Rattle.bisimulation.proofs.Relations.{one-first, fits-of, strays-found}
 
-module _ (vertices start : ℕ) {b relation : List ℕ} where
-  opening-refused : {s : Stage} {p : Place} → s ≡ Refused p → ((e : List ℕ) → verticesOf e ≡ vertices → startOf e ≡ start → s ≡ relationOf e b relation) → OpeningAnswer vertices start b relation s
-  opening-refused r h = record { refused = λ p q. h; passed = λ q. absurd (passed-refused q r) }
-
-  pub opening-40 : ¬ (length relation ≡ 16 * vertices) → OpeningAnswer vertices start b relation (Refused (RelationLength (length relation)))
-  opening-40 n = opening-refused refl (λ e p q. relation-of (fails-40 (λ z. n (omega arith))))
+-- THE CODE
+module _ (vertices start : ℕ) (b relation : List ℕ) where
+  pub opening-40 : ¬ (length relation ≡ 16 * vertices) → Refused (RelationLength (length relation)) ≡ openingOf vertices start b relation
+  unfolding openingOf
+  opening-40 n = rw (ne-eqb (length relation) (16 * vertices) n) refl
 
   module _ (w : length relation ≡ 16 * vertices) {s : Stage} (A : StrayAnswer b relation s) where
-    pub opening-41 : {p : Place} → s ≡ Refused p → OpeningAnswer vertices start b relation s
-    opening-41 {p} r = let (u, v, F, k) = A .refused p r in opening-refused r (λ e f g. k ∙ relation-of (fails-41 (omega arith) F))
+    abbrev row : ℕ
+    row = firstRow (strayBitTest b relation) vertices 128
 
-    -- q and t are the body's start and the bit that the code reads
-    module _ (r : s ≡ Passed) {q : ℕ} {t : Bool} (f : q ≡ startOf b) (g : t ≡ relatedTest relation start q) where
-      starts : (e : List ℕ) → startOf e ≡ start → t ≡ relatedTest relation (startOf e) (startOf b)
-      starts e h = rw (h, ← f) g
+    abbrev column : ℕ
+    column = lowest (strayBitTest b relation row) 0 128
 
-      fits : (e : List ℕ) → verticesOf e ≡ vertices → Fits e b relation
-      fits e h = fits-after (sym h) w A r
+    pub opening-41 : {p : Place} → s ≡ Refused p → s ≡ openingOf vertices start b relation
+    unfolding openingOf
+    opening-41 {p} r = let (u, v, F, k) = A .refused p r in k ∙ rw (eq-eqb (length relation) (16 * vertices) w) (go u v F (ltb row vertices) refl)
+      where
+        go : (u v : ℕ) → FirstPair (StrayBit b relation) u v → (x : Bool) → ltb row vertices ≡ x → Refused (PairNoVertex u v) ≡ cond x (Refused (PairNoVertex row column)) (cond (relatedTest relation start (startOf b)) Passed (Refused (PairStarts start (startOf b))))
+        go u v F true e = let (f, g) = one-first F (strays-found b relation vertices w .0 (ltb-true row vertices e)) in rw (f, g) refl
+        go u v F false e = absurd (strays-found b relation vertices w .1 (ltb-false row vertices e) u v (F .holds))
 
-      pub opening-42 : t ≡ false → OpeningAnswer vertices start b relation (Refused (PairStarts start q))
-      opening-42 z = opening-refused refl (λ e h k. rw (f, ← k) (relation-of (fitting {o = starts-apart} (fits e h) (fails-42 (is-not z (starts e k))))))
+    -- q is the start that the code reads
+    module _ (r : s ≡ Passed) {q : ℕ} (f : q ≡ startOf b) where
+      rest : cond (relatedTest relation start q) Passed (Refused (PairStarts start q)) ≡ openingOf vertices start b relation
+      unfolding openingOf
+      rest = rw (eq-eqb (length relation) (16 * vertices) w, f) (go (ltb row vertices) refl)
+        where
+          go : (x : Bool) → ltb row vertices ≡ x → cond (relatedTest relation start (startOf b)) Passed (Refused (PairStarts start (startOf b))) ≡ cond x (Refused (PairNoVertex row column)) (cond (relatedTest relation start (startOf b)) Passed (Refused (PairStarts start (startOf b))))
+          go true e = absurd (A .passed r row column (strays-found b relation vertices w .0 (ltb-true row vertices e) .holds))
+          go false e = refl
 
-      pub opening-passed : t ≡ true → OpeningAnswer vertices start b relation Passed
-      opening-passed z = record { refused = λ p n. absurd (passed-refused refl n); passed = λ n e h k. (fits e h, sym (starts e k) ∙ z) }
+      pub opening-42 : ¬ Related relation start q → Refused (PairStarts start q) ≡ openingOf vertices start b relation
+      opening-42 n = go (relatedTest relation start q) refl
+        where
+          go : (x : Bool) → relatedTest relation start q ≡ x → Refused (PairStarts start q) ≡ openingOf vertices start b relation
+          go true e = absurd (n e)
+          go false e = rw e at rest
+
+      pub opening-passed : Related relation start q → Passed ≡ openingOf vertices start b relation
+      opening-passed e = rw e at rest
+
+-- 40 TO 45 ARE 40 TO 42, AND THEN 43 TO 45
+module _ (e b relation : List ℕ) where
+  pub relation-opening : relationOf e b relation ≡ whenPassed (openingOf (verticesOf e) (startOf e) b relation) (relationStage e b (relationOutcomeOf e b relation)) (openingOf (verticesOf e) (startOf e) b relation)
+  unfolding relationOf openingOf relationOutcomeOf relationOutcome
+  relation-opening = go (eqb (length relation) (16 * verticesOf e)) (ltb row (verticesOf e)) (relatedTest relation (startOf e) (startOf b)) refl
+    where
+      row : ℕ
+      row = firstRow (strayBitTest b relation) (verticesOf e) 128
+
+      place : Stage
+      place = Refused (PairNoVertex row (lowest (strayBitTest b relation row) 0 128))
+
+      apart : relatedTest relation (startOf e) (startOf b) ≡ false → relationStage e b (relationOutcomeOf e b relation) ≡ Refused (PairStarts (startOf e) (startOf b))
+      apart h = rw h refl
+
+      opened : (x y z : Bool) → Stage
+      opened x y z = cond x (cond y place (cond z Passed (Refused (PairStarts (startOf e) (startOf b))))) (Refused (RelationLength (length relation)))
+
+      go : (x y z : Bool) → relatedTest relation (startOf e) (startOf b) ≡ z → cond x (cond y place (relationStage e b (relationOutcomeOf e b relation))) (Refused (RelationLength (length relation))) ≡ whenPassed (opened x y z) (relationStage e b (relationOutcomeOf e b relation)) (opened x y z)
+      go false y z h = refl
+      go true true z h = refl
+      go true false true h = refl
+      go true false false h = apart h
+
+  -- where they pass, every bit is one of a vertex, and the starts are related
+  opening-fits : openingOf (verticesOf e) (startOf e) b relation ≡ Passed → RelationFits e b relation × Related relation (startOf e) (startOf b)
+  unfolding openingOf
+  opening-fits = go (eqb (length relation) (16 * verticesOf e)) (ltb row (verticesOf e)) (relatedTest relation (startOf e) (startOf b)) refl refl refl
+    where
+      row : ℕ
+      row = firstRow (strayBitTest b relation) (verticesOf e) 128
+
+      go : (x y z : Bool) → eqb (length relation) (16 * verticesOf e) ≡ x → ltb row (verticesOf e) ≡ y → relatedTest relation (startOf e) (startOf b) ≡ z → cond x (cond y (Refused (PairNoVertex row (lowest (strayBitTest b relation row) 0 128))) (cond z Passed (Refused (PairStarts (startOf e) (startOf b))))) (Refused (RelationLength (length relation))) ≡ Passed → RelationFits e b relation × Related relation (startOf e) (startOf b)
+      go false y z h i j q = absurd (passed-refused q refl)
+      go true true z h i j q = absurd (passed-refused q refl)
+      go true false true h i j q = let w = eqb-true (length relation) (16 * verticesOf e) h in (fits-of w (strays-found b relation (verticesOf e) w .1 (ltb-false row (verticesOf e) i)), j)
+      go true false false h i j q = absurd (passed-refused q refl)
+
+  -- s is what `opening` answers
+  module _ (vertices start : ℕ) {s : Stage} (v : verticesOf e ≡ vertices) (f : startOf e ≡ start) (o : s ≡ openingOf vertices start b relation) where
+    is-opening : openingOf (verticesOf e) (startOf e) b relation ≡ s
+    is-opening = rw (v, f) (sym o)
+
+    -- a refusal of 40 to 42 is that of 40 to 45
+    pub opening-refused : {p : Place} → s ≡ Refused p → s ≡ relationOf e b relation
+    opening-refused q = q ∙ sym (relation-opening ∙ ap (λ (t : Stage). whenPassed t (relationStage e b (relationOutcomeOf e b relation)) t) (is-opening ∙ q))
+
+    -- where they pass, 43 to 45 are left
+    pub opening-passes : s ≡ Passed → RelationFits e b relation × Related relation (startOf e) (startOf b)
+    opening-passes q = opening-fits (is-opening ∙ q)
+
+-- WHERE SOME CHART HAS THE NUMBERS
+-- 43 to 45 have one answer
+pub pairs-one : {keys words : List ℕ} {m vertices : ℕ} {body relation : List ℕ} {s t : Stage} → SomeChart keys words m vertices body relation → PairsAnswer keys words m vertices body relation s → PairsAnswer keys words m vertices body relation t → s ≡ t
+pairs-one (e, N) S T = S e N ∙ sym (T e N)
+
+-- and the relation has a row for each of its vertices
+pub rows-fit : {keys words : List ℕ} {m vertices : ℕ} {body relation : List ℕ} → SomeChart keys words m vertices body relation → (length relation ≡ 16 * vertices) × (vertices ≤ 128)
+rows-fit (e, N) = let h = well-formed e (N .passes) .header .vertices-high in (omega (arith, N .fits .whole, N .size), omega (arith, h, N .size))

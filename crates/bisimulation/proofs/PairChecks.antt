@@ -1,28 +1,32 @@
 -- 43 to 45 of a pair, of a row and of all rows: what the loops keep, and what their answers say.
 use mathlib.Core.Path.{_≡_, refl, sym, subst}
-use mathlib.Core.Logic.{inl, inr, ⊎-elim, _↔_}
+use mathlib.Core.Logic.{inl, inr, ⊎-elim, by-cases}
 use mathlib.Core.Bool.{Bool, true, false, Bool·beq, false≢true}
 use mathlib.Core.List.{List}
 use Prim.Native.Nat.{ℕ, _≤_, _<_}
+use native.Mathlib.Decide.{decLt}
 use native.Mathlib.Omega.{arith}
 use lib.Dec.{eqb}
+use Rattle.bits.specs.declared.sets.Set.{Set}
+use Rattle.bits.specs.First.{First}
+use Rattle.bits.specs.Sets.{Has, Members, Difference}
 use Rattle.theory.specs.Least.{Earlier}
 use Rattle.theory.specs.Tests.{Decides}
 use Rattle.theory.proofs.Tests.{decides-eqb, not-so}
-use Rattle.theory.specs.Relations.{fails-pair}
+use Rattle.theory.specs.Relations.{EndsAgree, fails-pair}
 use Rattle.chart.specs.Bodies.{verticesOf, startOf}
 use Rattle.report.specs.declared.Place.{Place}
 use Rattle.report.specs.declared.Place.the-variants.{PairNoVertex}
 use Rattle.report.specs.declared.Stage.{Stage}
 use Rattle.report.specs.declared.Stage.the-variants.{Passed, Refused}
-use Rattle.bisimulation.specs.Answers.{Related, Stray, Passes, Fails, PairAnswer, RowAnswer, CheckedAnswer, StrayAnswer, FirstColumn}
-use Rattle.bisimulation.proofs.Rows.{related-column}
+use Rattle.bisimulation.specs.Answers.{Related, StrayBit, Passes, FailsWith, PairAnswer, RowAnswer, CheckedAnswer, StrayAnswer}
+use Rattle.bisimulation.proofs.RowLaws.{has-related}
 
 -- 43: the test of the ends
-pub decides-ends : (u v : ℕ) → Decides (Bool·beq (eqb u 0) (eqb v 0)) ((u ≡ 0) ↔ (v ≡ 0))
+pub decides-ends : (u v : ℕ) → Decides (Bool·beq (eqb u 0) (eqb v 0)) (EndsAgree u v)
 decides-ends u v = go (eqb u 0) (eqb v 0) (decides-eqb u 0) (decides-eqb v 0)
   where
-    go : (a b : Bool) → Decides a (u ≡ 0) → Decides b (v ≡ 0) → Decides (Bool·beq a b) ((u ≡ 0) ↔ (v ≡ 0))
+    go : (a b : Bool) → Decides a (u ≡ 0) → Decides b (v ≡ 0) → Decides (Bool·beq a b) (EndsAgree u v)
     go true true d e = ((λ h. ((λ q. e .0 refl), (λ q. d .0 refl))), (λ h. refl))
     go true false d e = ((λ h. absurd (false≢true h)), (λ h. absurd (not-so e refl (h .0 (d .0 refl)))))
     go false true d e = ((λ h. absurd (false≢true h)), (λ h. absurd (not-so d refl (h .1 (e .0 refl)))))
@@ -31,21 +35,30 @@ decides-ends u v = go (eqb u 0) (eqb v 0) (decides-eqb u 0) (decides-eqb v 0)
 pub passed-refused : {s : Stage} {p : Place} → s ≡ Passed → ¬ (s ≡ Refused p)
 passed-refused e f = let z : _≡_ {A = ℕ} 0 1 = cc in omega arith
 
-module _ (body : List ℕ) {relation : List ℕ} {columns u v : ℕ} (e : columns ≡ verticesOf body) (C : FirstColumn relation u columns v) where
-  -- 41: a row, and the rows before it
-  pub stray-first : ((a : ℕ) → a < u → (w : ℕ) → ¬ Stray body relation a w) → v < 128 → StrayAnswer body relation (Refused (PairNoVertex u v))
+-- 41: d has the bits of row u outside the first V columns, and v is its lowest
+module _ (body relation : List ℕ) (u : ℕ) {v : ℕ} {s inside d : Set} (M : Members (Related relation u) s) (I : Members (λ (w : ℕ). (0 ≤ w) × (w < verticesOf body)) inside) (D : Difference s inside d) (F : First (Has d) 0 128 v) where
+  is-stray : (w : ℕ) → Has d w → StrayBit body relation u w
+  is-stray w h =
+      let (g, n) = D w .0 h in
+      (by-cases (decLt w (verticesOf body)) (λ l. absurd (n (I .exactly w (h .below) .1 (omega arith, l)))) (λ l. omega arith), has-related relation u M w .0 g)
+
+  stray-is : (w : ℕ) → StrayBit body relation u w → Has d w
+  stray-is w (l, r) = D w .1 (has-related relation u M w .1 r, λ h. omega (arith, I .exactly w (h .below) .0 h .1))
+
+  -- a row, and the rows before it
+  pub stray-first : ((a : ℕ) → a < u → (w : ℕ) → ¬ StrayBit body relation a w) → v < 128 → StrayAnswer body relation (Refused (PairNoVertex u v))
   stray-first h l = record {
     passed = λ q. absurd (passed-refused q refl);
-    refused = λ p q. (u, v, record { holds = (omega (arith, C .from), C .related l); earlier = earlier }, refl);
+    refused = λ p q. (u, v, record { holds = is-stray v (F .holds l); earlier = earlier }, refl);
   }
     where
-      earlier : (a b : ℕ) → Earlier a b u v → ¬ Stray body relation a b
-      earlier a b g s = ⊎-elim (λ k. h a k b s) (λ (k, m). C .below b (omega (arith, s .0)) m (subst (λ (x : ℕ). Related relation x b) k (s .1))) g
+      earlier : (a b : ℕ) → Earlier a b u v → ¬ StrayBit body relation a b
+      earlier a b g s = ⊎-elim (λ k. h a k b s) (λ (k, m). F .before b (omega arith) m (stray-is b (subst (λ (x : ℕ). StrayBit body relation x b) k s))) g
 
-  pub stray-none : 128 ≤ v → (w : ℕ) → ¬ Stray body relation u w
-  stray-none l w s = C .below w (omega (arith, s .0)) (omega (arith, related-column relation u w (s .1))) (s .1)
+  pub stray-none : 128 ≤ v → (w : ℕ) → ¬ StrayBit body relation u w
+  stray-none l w s = let h = stray-is w s in F .before w (omega arith) (omega (arith, h .below)) h
 
-pub stray-passed : {body relation : List ℕ} → ((u v : ℕ) → ¬ Stray body relation u v) → StrayAnswer body relation Passed
+pub stray-passed : {body relation : List ℕ} → ((u v : ℕ) → ¬ StrayBit body relation u v) → StrayAnswer body relation Passed
 stray-passed h = record { passed = λ q. h; refused = λ p q. absurd (passed-refused refl q) }
 
 module _ {expression body relation : List ℕ} {u : ℕ} where
@@ -53,19 +66,19 @@ module _ {expression body relation : List ℕ} {u : ℕ} where
   pub pair-passed : {v : ℕ} → (Related relation u v → Passes expression body relation u v) → PairAnswer expression body relation u v Passed
   pair-passed h = record { passed = λ q. h; refused = λ p q. absurd (passed-refused refl q) }
 
-  pub pair-refused : {v : ℕ} {p : Place} → Related relation u v → Fails expression body relation u v (Refused p) → PairAnswer expression body relation u v (Refused p)
+  pub pair-refused : {v : ℕ} {p : Place} → Related relation u v → FailsWith expression body relation u v (Refused p) → PairAnswer expression body relation u v (Refused p)
   pair-refused r f = record { passed = λ q. absurd (passed-refused q refl); refused = λ p q. (r, f) }
 
   -- a row stops at a pair that is refused
   pub row-stop : {v : ℕ} {s : Stage} {p : Place} → s ≡ Refused p → PairAnswer expression body relation u v s → ((w : ℕ) → w < v → Related relation u w → Passes expression body relation u w) → RowAnswer expression body relation u s
-  row-stop {v} {s} {p} e a h = let (r, f) = a .refused p e in record { passed = λ q. absurd (passed-refused q e); refused = λ z q. (v, r, h, f) }
+  row-stop {v} {s} {p} e a h = let (r, f) = a .refused p e in record { passed = λ q. absurd (passed-refused q e); refused = λ z q. (v, record { related = r; before = h; fails = f }) }
 
   pub row-passed : ((v : ℕ) → Related relation u v → Passes expression body relation u v) → RowAnswer expression body relation u Passed
   row-passed h = record { passed = λ q. h; refused = λ p q. absurd (passed-refused refl q) }
 
   -- the search through the rows stops at a row that is refused
   pub rows-stop : {s : Stage} {p : Place} → s ≡ Refused p → RowAnswer expression body relation u s → Related relation (startOf expression) (startOf body) → ((a : ℕ) → a < u → (w : ℕ) → Related relation a w → Passes expression body relation a w) → CheckedAnswer expression body relation s
-  rows-stop {s} {p} e a z h = let (v, r, g, (o, f, q)) = a .refused p e in (o, fails-pair z r (earlier v g) f, q)
+  rows-stop {s} {p} e a z h = let (v, g) = a .refused p e in let (o, f, q) = g .fails in (o, fails-pair z (g .related) (earlier v (g .before)) f, q)
     where
       earlier : (v : ℕ) → ((w : ℕ) → w < v → Related relation u w → Passes expression body relation u w) → (x y : ℕ) → Earlier x y u v → Related relation x y → Passes expression body relation x y
       earlier v g x y (inl m) t = h x m y t

@@ -1,25 +1,31 @@
 -- 43 to 45 of a related pair by words of steps, and the places of what is not matched.
 use mathlib.Core.Path.{_≡_, sym, subst}
-use mathlib.Core.Logic.{_⊎_, inl, inr, _↔_, by-cases}
+use mathlib.Core.Logic.{_⊎_, inl, inr, ⊎-elim, _↔_, by-cases}
 use mathlib.Core.List.{List}
-use Prim.Native.Nat.{ℕ, _+_, _*_, _/_, _%_, _^_, _≤_, _<_}
+use Prim.Native.Nat.{ℕ, _+_, _/_, _%_, _^_, _≤_, _<_}
 use native.Mathlib.Decide.{ℕ-discrete}
 use native.Mathlib.Omega.{arith}
 use lib.ListN.{getD}
 use Rattle.theory.specs.Least.{Least}
-use Rattle.theory.specs.Relations.{Matched, Unmatched, AllMatched, converse}
+use Rattle.theory.proofs.Search.{look-below}
+use Rattle.theory.specs.Systems.{converse}
+use Rattle.theory.specs.Relations.{Matched, Unmatched, AllMatched}
 use Rattle.bits.specs.Bits.{Bytes}
-use Rattle.bits.specs.Words.{On, LowestOn, Has, HasRow}
-use Rattle.bits.proofs.Sets.{zero-off, has-either}
+use Rattle.bits.specs.declared.sets.Set.{Set}
+use Rattle.bits.specs.First.{First}
+use Rattle.bits.specs.Words.{On, LowestOn}
+use Rattle.bits.specs.Sets.{Has, emptySet, Members, Union}
+use Rattle.bits.specs.Tables.{rowOf, HasRow}
+use Rattle.bits.proofs.Members.{zero-off, none, has?}
 use Rattle.chart.specs.Bodies.{countOf, fromOf, actionOf, toOf, WellFormed}
-use Rattle.chart.specs.Leaving.{Rows}
+use Rattle.chart.specs.Leaving.{Begins}
 use Rattle.chart.proofs.Order.{at-mid, between}
 use Rattle.bisimulation.specs.Relations.{indexedOf}
 use Rattle.bisimulation.specs.Answers.{Related, Passes}
 use Rattle.bisimulation.specs.Suspects.{Match, MatchedIn}
 use Rattle.bisimulation.specs.Places.{StepPlace}
-use Rattle.bisimulation.specs.Pairs.{Alone, Told, Sought, Union}
-use Rattle.bisimulation.proofs.Rows.{related-column}
+use Rattle.bisimulation.specs.Pairs.{Alone, Suspect, StepTables, Sought}
+use Rattle.bisimulation.proofs.RowLaws.{related-column}
 use Rattle.bisimulation.proofs.PlaceLaws.{one-place, key-order}
 use Rattle.bisimulation.proofs.StepLaws.{step-of, at-step, is-matched, is-match}
 
@@ -40,30 +46,50 @@ matched-more into acting body a i s x r l S X R k = ((λ on. there (R k .0 on)),
 pub matched-none : (into acting body : List ℕ) (a k : ℕ) → On 0 k ↔ MatchedIn into acting body a a k
 matched-none into acting body a k = ((λ on. absurd (zero-off k on)), (λ (j, p, q, M). absurd (omega arith)))
 
--- `union`: one set more
-pub union-more : (table : List ℕ) (v lo hi lo′ hi′ : ℕ) → Union table v lo hi → ((j : ℕ) → On lo′ j ↔ (On lo j ⊎ On (getD table (2 * v) 0) j)) → ((j : ℕ) → On hi′ j ↔ (On hi j ⊎ On (getD table (2 * v + 1) 0) j)) → Union table (v + 1) lo′ hi′
-union-more table v lo hi lo′ hi′ S L H u w l h =
-    by-cases (ℕ-discrete w v)
-    (λ e. wider u .1 (inr (subst (λ (x : ℕ). HasRow table x u) e h)))
-    (λ e. wider u .1 (inl (S u w (omega arith) h)))
+-- `suspects`: no set, and one more
+pub suspects-none : (table : List ℕ) {s : Set} → s ≡ emptySet → Members (Suspect table 0) s
+suspects-none table e = record { exactly = λ u l. ((λ h. absurd (none u (rw e at h))), (λ (v, m, h). absurd (omega arith))) }
+
+pub suspects-more : (table : List ℕ) (v : ℕ) {s q r : Set} → Members (Suspect table v) s → q ≡ rowOf table v → Union s q r → Members (Suspect table (v + 1)) r
+suspects-more table v {s} {q} {r} M e U = record { exactly = λ u l. ((λ h. there u l (U u .0 h)), back u l) }
   where
-    wider : (u : ℕ) → Has lo′ hi′ u ↔ (Has lo hi u ⊎ HasRow table v u)
-    wider = has-either lo hi (getD table (2 * v) 0) (getD table (2 * v + 1) 0) lo′ hi′ L H
+    there : (u : ℕ) → u < 128 → Has s u ⊎ Has q u → Suspect table (v + 1) u
+    there u l (inl h) = let (w, m, g) = M .exactly u l .0 h in (w, omega arith, g)
+    there u l (inr h) = (v, omega arith, rw e at h)
 
--- a row outside the union is in no set, so each of its pairs passes
-pub union-clear : {into acting words table body e relation : List ℕ} (lo hi : ℕ) → Sought into acting words table body e relation → Union table 128 lo hi → (u : ℕ) → ¬ Has lo hi u → (v : ℕ) → Related relation u v → Passes e body relation u v
-union-clear {relation = relation} lo hi S U u n v r = S .others u v r (λ h. n (U u v (related-column relation u v r) h))
+    back : (u : ℕ) → u < 128 → Suspect table (v + 1) u → Has r u
+    back u l (w, m, h) =
+        by-cases (ℕ-discrete w v)
+        (λ f. U u .1 (inr (rw e (subst (λ (x : ℕ). HasRow table x u) f h))))
+        (λ f. U u .1 (inl (M .exactly u l .1 (w, omega arith, h))))
 
-module _ {into acting words e relation body rows : List ℕ} (B : Bytes body) (W : WellFormed body) (R : Rows body rows) (T : Told into acting words e relation) (u : ℕ) {v : ℕ} (low : v < 128) where
+-- each pair of a row that is in no set passes
+pub suspects-clear : {into acting words table body e relation : List ℕ} {set : Set} → Sought into acting words table body e relation → Members (Suspect table 128) set → (u : ℕ) → ¬ Has set u → (v : ℕ) → Related relation u v → Passes e body relation u v
+suspects-clear {relation = relation} S M u n v r = S .others u v r (λ h. n (M .exactly u (h .below) .1 (v, related-column relation u v r, h)))
+
+-- a transition that is not alone has a step that matches it
+met-by : (into acting body : List ℕ) (steps i : ℕ) → ¬ Alone into acting body steps i → (k : ℕ) × On steps k × Match into acting body i k
+met-by into acting body steps i f = ⊎-elim (λ (k, l, h). (k, h .0, h .1)) (λ n. absurd (f (λ k on M. n k (M .0 .below) (on, M)))) (look-below {P = λ (k : ℕ). On steps k × Match into acting body i k} meets? 128)
+  where
+    meets? : (k : ℕ) → Dec (On steps k × Match into acting body i k)
+    meets? k = elim (ℕ-discrete (steps / 2 ^ k % 2) 1) [ yes on ↦ second on | no off ↦ no (λ h. off (h .0)) ]
+      where
+        third : On steps k → HasRow into (toOf body i) k → Dec (On steps k × Match into acting body i k)
+        third on h = elim (ℕ-discrete (getD acting (actionOf body i) 0 / 2 ^ k % 2) 1) [ yes a ↦ yes (on, (h, a)) | no a ↦ no (λ g. a (g .1 .1)) ]
+
+        second : On steps k → Dec (On steps k × Match into acting body i k)
+        second on = elim (has? (rowOf into (toOf body i)) k) [ yes h ↦ third on h | no h ↦ no (λ g. h (g .1 .0)) ]
+
+module _ {into acting words e relation body begins : List ℕ} (B : Bytes body) (W : WellFormed body) (R : Begins body begins) (T : StepTables into acting words e relation) (u : ℕ) {v : ℕ} (low : v < 128) where
   -- the transitions of v stand from its entry up to the next
-  here : (j : ℕ) → j < countOf body → fromOf body j ≡ v → (getD rows v 0 ≤ j) × (j < getD rows (v + 1) 0)
+  here : (j : ℕ) → j < countOf body → fromOf body j ≡ v → (getD begins v 0 ≤ j) × (j < getD begins (v + 1) 0)
   here = between (R .split v (omega arith)) (R .split (v + 1) (omega arith))
 
-  leaves : (j : ℕ) → getD rows v 0 ≤ j → j < getD rows (v + 1) 0 → (j < countOf body) × (fromOf body j ≡ v)
+  leaves : (j : ℕ) → getD begins v 0 ≤ j → j < getD begins (v + 1) 0 → (j < countOf body) × (fromOf body j ≡ v)
   leaves j p q = (omega (arith, R .split (v + 1) (omega arith) .within), at-mid (R .split v (omega arith)) (R .split (v + 1) (omega arith)) j p q)
 
   -- 44: s has the steps that match a transition of v, and left those of u that match none
-  module _ (s left : ℕ) (S : (k : ℕ) → On s k ↔ MatchedIn into acting body (getD rows v 0) (getD rows (v + 1) 0) k) (D : (k : ℕ) → On left k ↔ (On (getD words u 0) k × (¬ On s k))) where
+  module _ (s left : ℕ) (S : (k : ℕ) → On s k ↔ MatchedIn into acting body (getD begins v 0) (getD begins (v + 1) 0) k) (D : (k : ℕ) → On left k ↔ (On (getD words u 0) k × (¬ On s k))) where
     unless-left : (i k : ℕ) → getD (T .keys) k 0 / 256 ≡ actionOf e i → getD (T .keys) k 0 % 256 ≡ toOf e i → On (getD words u 0) k → ¬ On left k → Matched (indexedOf e) (indexedOf body) (Related relation) v i
     unless-left i k a t on n =
         by-cases (ℕ-discrete (s / 2 ^ k % 2) 1)
@@ -94,23 +120,23 @@ module _ {into acting words e relation body rows : List ℕ} (B : Bytes body) (W
         })
 
   -- 45
-  module _ {r : ℕ} (A : Alone into acting body (getD rows v 0) (getD rows (v + 1) 0) (getD words u 0) r) where
+  module _ {r : ℕ} (A : First (Alone into acting body (getD words u 0)) (getD begins v 0) (getD begins (v + 1) 0) r) where
     met : (j : ℕ) → j < countOf body → (k : ℕ) → On (getD words u 0) k → Match into acting body j k → Matched (indexedOf body) (indexedOf e) (converse (Related relation)) u j
     met j h k on M =
         let (i, g, p, a, t) = at-step T u k on in
         let (q, c) = is-matched B W T i k j a t h M in
         (i, g, p, sym q, c)
 
-    pub none-alone : getD rows (v + 1) 0 ≤ r → AllMatched (indexedOf body) (indexedOf e) (converse (Related relation)) v u
+    pub none-alone : getD begins (v + 1) 0 ≤ r → AllMatched (indexedOf body) (indexedOf e) (converse (Related relation)) v u
     none-alone l j h f =
         let (p, q) = here j h f in
-        let (k, on, M) = A .below j p (omega arith) in
+        let (k, on, M) = met-by into acting body (getD words u 0) j (A .before j p (omega arith)) in
         met j h k on M
 
-    pub least-alone : r < getD rows (v + 1) 0 → Least (Unmatched (indexedOf body) (indexedOf e) (converse (Related relation)) v u) r
+    pub least-alone : r < getD begins (v + 1) 0 → Least (Unmatched (indexedOf body) (indexedOf e) (converse (Related relation)) v u) r
     least-alone l =
         let (h, f) = leaves r (A .from) l in
         record {
-          holds = (h, f, λ (i, g, p, q, c). let (k, b, a, t, on) = step-of T u i g p in A .alone l k on (is-match B W T i k r a t h b (sym q) c));
-          lowest = λ j b (g, p, n). let (k, on, M) = A .below j (here j g p .0) b in n (met j g k on M);
+          holds = (h, f, λ (i, g, p, q, c). let (k, b, a, t, on) = step-of T u i g p in A .holds l k on (is-match B W T i k r a t h b (sym q) c));
+          lowest = λ j b (g, p, n). let (k, on, M) = met-by into acting body (getD words u 0) j (A .before j (here j g p .0) b) in n (met j g k on M);
         }

@@ -16,25 +16,25 @@ use Rattle.theory.specs.Relations.{indexed, RelationOutcome, PairFails, fails-4
 use Rattle.theory.proofs.Search.{same-or-earlier}
 use Rattle.theory.proofs.Tests.{not-so, decides-and, decides-eqb, decides-leb, first-pair}
 use Rattle.theory.proofs.Relations.{one-relation-outcome, related-iff-bisimulation, relation-checked}
-use Rattle.report.specs.declared.Place.the-variants.{File, Record, RecordKind, FileOffset, NodesLength, Node, NodeUses, ChartHeader, Transition, LabelsLength, Unreached, BranchCycle, LoopNoReturn, LoopEndInside, LoopNotLower, RelationLength, PairNoVertex, PairStarts, PairEnds, PairExpressionStep, PairChartStep, OutputLength}
+use Rattle.report.specs.declared.Place.the-variants.{RelationLength, PairNoVertex}
 use Rattle.report.specs.declared.Stage.{Stage}
 use Rattle.report.specs.declared.Stage.the-variants.{Passed, Refused}
 use Rattle.chart.specs.Bodies.{verticesOf, startOf}
 use Rattle.chart.specs.Steps.{transitionsOf}
 use Rattle.chart.proofs.Relations.{acts-member}
-use Rattle.bisimulation.specs.Relations.{indexedOf, relatedTest, strayTest, answered, outcomeOf, relationOf}
-use Rattle.bisimulation.specs.Answers.{Related, Stray, StrayAnswer, Fits}
-use Rattle.bisimulation.specs.Meaning.{Comes, Says}
-use Rattle.bisimulation.proofs.Rows.{related-column, related-row}
+use Rattle.bisimulation.specs.Relations.{indexedOf, relatedTest, strayBitTest, relationStage, relationOutcomeOf, relationOf}
+use Rattle.bisimulation.specs.Answers.{Related, StrayBit, RelationFits}
+use Rattle.bisimulation.specs.RelationAnswers.{Comes, RelationAnswer, passed, other-length, no-vertex, starts-unrelated, other-end, expression-alone, chart-alone}
+use Rattle.bisimulation.proofs.RowLaws.{related-column, related-row}
 
 -- the answer of 40 to 45, with its place
 pub data Answers (e b relation : List ℕ) : Stage → Type 0 where
   fails-40 : length relation ≢ 16 * verticesOf e → Answers e b relation (Refused (RelationLength (length relation)))
-  fails-41 : {u v : ℕ} → length relation ≡ 16 * verticesOf e → FirstPair (Stray b relation) u v → Answers e b relation (Refused (PairNoVertex u v))
-  fitting : {o : RelationOutcome} → Fits e b relation → RelationChecked (indexedOf e) (indexedOf b) (Related relation) o → Answers e b relation (answered e b o)
+  fails-41 : {u v : ℕ} → length relation ≡ 16 * verticesOf e → FirstPair (StrayBit b relation) u v → Answers e b relation (Refused (PairNoVertex u v))
+  fitting : {o : RelationOutcome} → RelationFits e b relation → RelationChecked (indexedOf e) (indexedOf b) (Related relation) o → Answers e b relation (relationStage e b o)
 
 -- THERE IS ONLY ONE ANSWER
-one-first : {P : ℕ → ℕ → Type 0} {u v a c : ℕ} → FirstPair P u v → FirstPair P a c → (u ≡ a) × (v ≡ c)
+pub one-first : {P : ℕ → ℕ → Type 0} {u v a c : ℕ} → FirstPair P u v → FirstPair P a c → (u ≡ a) × (v ≡ c)
 one-first {P} {u} {v} {a} {c} f g = go (same-or-earlier u v a c)
   where
     go : ((u ≡ a) × (v ≡ c)) ⊎ (Earlier u v a c ⊎ Earlier a c u v) → (u ≡ a) × (v ≡ c)
@@ -43,7 +43,7 @@ one-first {P} {u} {v} {a} {c} f g = go (same-or-earlier u v a c)
     go (inr (inr h)) = absurd (f .earlier a c h (g .holds))
 
 module _ {e b relation : List ℕ} where
-  stray-fits : {u v : ℕ} → FirstPair (Stray b relation) u v → ¬ Fits e b relation
+  stray-fits : {u v : ℕ} → FirstPair (StrayBit b relation) u v → ¬ RelationFits e b relation
   stray-fits {u} {v} f F = let (l, r) = f .holds in omega (arith, F .inside u v r .1)
 
   pub one-answer : {s t : Stage} → Answers e b relation s → Answers e b relation t → s ≡ t
@@ -55,10 +55,10 @@ module _ {e b relation : List ℕ} where
   one-answer (fails-41 w f) (fitting F c) = absurd (stray-fits f F)
   one-answer (fitting F c) (fails-40 g) = absurd (g (F .whole))
   one-answer (fitting F c) (fails-41 z g) = absurd (stray-fits g F)
-  one-answer (fitting F c) (fitting G d) = ap (answered e b) (one-relation-outcome c d)
+  one-answer (fitting F c) (fitting G d) = ap (relationStage e b) (one-relation-outcome c d)
 
 -- where no bit is stray, each stands for a pair of vertices
-pub fits-of : {e b relation : List ℕ} → length relation ≡ 16 * verticesOf e → ((u v : ℕ) → ¬ Stray b relation u v) → Fits e b relation
+pub fits-of : {e b relation : List ℕ} → length relation ≡ 16 * verticesOf e → ((u v : ℕ) → ¬ StrayBit b relation u v) → RelationFits e b relation
 fits-of {e} {b} {relation} w h = record { whole = w; inside = λ u v r. (related-row relation (verticesOf e) u v w r, low u v r) }
   where
     low : (u v : ℕ) → Related relation u v → v < verticesOf b
@@ -68,18 +68,21 @@ fits-of {e} {b} {relation} w h = record { whole = w; inside = λ u v r. (related
         go true e = ltb-true v (verticesOf b) e
         go false e = absurd (h u v (ltb-false v (verticesOf b) e, r))
 
--- what `opening` knows once 41 passes
-pub fits-after : {e b relation : List ℕ} {n : ℕ} {s : Stage} → n ≡ verticesOf e → length relation ≡ 16 * n → StrayAnswer b relation s → s ≡ Passed → Fits e b relation
-fits-after {e} {b} h w a q = fits-of {e = e} (rw h at w) (a .passed q)
-
 -- THE TESTS GIVE IT
-decides-stray : (b relation : List ℕ) (u v : ℕ) → Decides (strayTest b relation u v) (Stray b relation u v)
-unfolding strayTest
+decides-stray : (b relation : List ℕ) (u v : ℕ) → Decides (strayBitTest b relation u v) (StrayBit b relation u v)
+unfolding strayBitTest
 decides-stray b relation u v = decides-and (decides-leb (verticesOf b) v) ((λ r. r), (λ r. r))
 
+-- 41 of so many rows
+pub strays-found : (b relation : List ℕ) (rows : ℕ) → length relation ≡ 16 * rows
+    → (firstRow (strayBitTest b relation) rows 128 < rows
+    → FirstPair (StrayBit b relation) (firstRow (strayBitTest b relation) rows 128) (lowest (strayBitTest b relation (firstRow (strayBitTest b relation) rows 128)) 0 128))
+    × (rows ≤ firstRow (strayBitTest b relation) rows 128 → (a c : ℕ) → ¬ StrayBit b relation a c)
+strays-found b relation rows w = first-pair (decides-stray b relation) rows 128 (λ a c s. (related-row relation rows a c w (s .1), related-column relation a c (s .1)))
+
 module _ (e b relation : List ℕ) where
-  outcome-checked : Fits e b relation → RelationChecked (indexedOf e) (indexedOf b) (Related relation) (outcomeOf e b relation)
-  unfolding outcomeOf
+  outcome-checked : RelationFits e b relation → RelationChecked (indexedOf e) (indexedOf b) (Related relation) (relationOutcomeOf e b relation)
+  unfolding relationOutcomeOf
   outcome-checked F = relation-checked (indexedOf e) (indexedOf b) {t = relatedTest relation} {R = Related relation} (λ u v. ((λ r. r), (λ r. r))) (verticesOf e) (verticesOf b) (F .inside)
 
   pub relation-answers : Answers e b relation (relationOf e b relation)
@@ -87,19 +90,16 @@ module _ (e b relation : List ℕ) where
   relation-answers = go (eqb (length relation) (16 * verticesOf e)) (ltb u (verticesOf e)) (decides-eqb (length relation) (16 * verticesOf e)) refl
     where
       u : ℕ
-      u = firstRow (strayTest b relation) (verticesOf e) 128
+      u = firstRow (strayBitTest b relation) (verticesOf e) 128
 
       v : ℕ
-      v = lowest (strayTest b relation u) 0 128
+      v = lowest (strayBitTest b relation u) 0 128
 
-      found : length relation ≡ 16 * verticesOf e → (u < verticesOf e → FirstPair (Stray b relation) u v) × (verticesOf e ≤ u → (a c : ℕ) → ¬ Stray b relation a c)
-      found w = first-pair (decides-stray b relation) (verticesOf e) 128 (λ a c s. (related-row relation (verticesOf e) a c w (s .1), related-column relation a c (s .1)))
-
-      go : (x y : Bool) → Decides x (length relation ≡ 16 * verticesOf e) → ltb u (verticesOf e) ≡ y → Answers e b relation (cond x (cond y (Refused (PairNoVertex u v)) (answered e b (outcomeOf e b relation))) (Refused (RelationLength (length relation))))
+      go : (x y : Bool) → Decides x (length relation ≡ 16 * verticesOf e) → ltb u (verticesOf e) ≡ y → Answers e b relation (cond x (cond y (Refused (PairNoVertex u v)) (relationStage e b (relationOutcomeOf e b relation))) (Refused (RelationLength (length relation))))
       go false y d h = fails-40 (not-so d refl)
-      go true true d h = fails-41 (d .0 refl) (found (d .0 refl) .0 (ltb-true u (verticesOf e) h))
+      go true true d h = fails-41 (d .0 refl) (strays-found b relation (verticesOf e) (d .0 refl) .0 (ltb-true u (verticesOf e) h))
       go true false d h =
-          let F = fits-of (d .0 refl) (found (d .0 refl) .1 (ltb-false u (verticesOf e) h)) in
+          let F = fits-of (d .0 refl) (strays-found b relation (verticesOf e) (d .0 refl) .1 (ltb-false u (verticesOf e) h)) in
           fitting F (outcome-checked F)
 
 pub relation-of : {e b relation : List ℕ} {s : Stage} → Answers e b relation s → s ≡ relationOf e b relation
@@ -122,8 +122,8 @@ module _ {S S′ T T′ : ℕ → ℕ → ℕ → Type 0} (s : (u a w : ℕ) →
 -- a body's transitions by their index, and as a list
 indexed-member : (b : List ℕ) (u a w : ℕ) → indexed (indexedOf b) .Step u a w ↔ List·Memᴰ (u, a, w) (transitionsOf b)
 indexed-member b u a w = (
-  (λ (i, h, f, g, k). acts-member b u a w .0 (record { at = i; within = h; leaves = f; acts = g; enters = k })),
-  (λ m. let z = acts-member b u a w .1 m in (z .at, z .within, z .leaves, z .acts, z .enters)),
+  (λ (i, h, f, g, k). acts-member b u a w .0 (record { at = i; within = h; leaves = f; enters = k; holds = record { is = g } })),
+  (λ m. let z = acts-member b u a w .1 m in (z .at, z .within, z .leaves, z .holds .is, z .enters)),
 )
 
 back-again : {A B : Type 0} → A ↔ B → B ↔ A
@@ -136,61 +136,53 @@ indexed-chart e b R = (
 )
 
 module _ (e b relation : List ℕ) where
-  pair-says : {u v : ℕ} {o : RelationOutcome} → Comes e b relation u v → PairFails (indexedOf e) (indexedOf b) (Related relation) u v o → Says e b relation (answered e b o)
-  unfolding Says
-  pair-says c (fails-43 h) = (c, h)
-  pair-says c (fails-44 h l) = (c, h, l)
-  pair-says c (fails-45 h a l) = (c, h, a, l)
+  pair-answer : {u v : ℕ} {o : RelationOutcome} → Comes e b relation u v → PairFails (indexedOf e) (indexedOf b) (Related relation) u v o
+      → RelationAnswer e b relation (relationStage e b o)
+  pair-answer c (fails-43 h) = other-end c h
+  pair-answer c (fails-44 h l) = expression-alone c h l
+  pair-answer c (fails-45 h a l) = chart-alone c h a l
 
-  checked-says : {o : RelationOutcome} → Fits e b relation → RelationChecked (indexedOf e) (indexedOf b) (Related relation) o → Says e b relation (answered e b o)
-  unfolding Says
-  checked-says F (all-pass s p) = (F .whole, F .inside, indexed-chart e b (Related relation) .0 (related-iff-bisimulation .0 (all-pass s p)))
-  checked-says F (fails-42 h) = (F, refl, refl, h)
-  checked-says F (fails-pair s r g f) = pair-says (record { fits = F; starts = s; related = r; earlier = g }) f
+  outcome-answer : {o : RelationOutcome} → RelationFits e b relation → RelationChecked (indexedOf e) (indexedOf b) (Related relation) o
+      → RelationAnswer e b relation (relationStage e b o)
+  outcome-answer F (all-pass s p) = passed F (indexed-chart e b (Related relation) .0 (related-iff-bisimulation .0 (all-pass s p)))
+  outcome-answer F (fails-42 h) = starts-unrelated F h
+  outcome-answer F (fails-pair s r g f) = pair-answer (record { fits = F; starts = s; related = r; earlier = g }) f
 
-  answers-say : {s : Stage} → Answers e b relation s → Says e b relation s
-  unfolding Says
-  answers-say (fails-40 h) = (refl, h)
-  answers-say (fails-41 w f) = (w, f)
-  answers-say (fitting F c) = checked-says F c
+  relation-answer : {s : Stage} → Answers e b relation s → RelationAnswer e b relation s
+  relation-answer (fails-40 h) = other-length h
+  relation-answer (fails-41 w f) = no-vertex w f
+  relation-answer (fitting F c) = outcome-answer F c
 
-  says-pair : {u v : ℕ} {o : RelationOutcome} → Comes e b relation u v → PairFails (indexedOf e) (indexedOf b) (Related relation) u v o → Answers e b relation (answered e b o)
-  says-pair c f = fitting (c .fits) (fails-pair (c .starts) (c .related) (c .earlier) f)
+  pair-fails : {u v : ℕ} {o : RelationOutcome} → Comes e b relation u v → PairFails (indexedOf e) (indexedOf b) (Related relation) u v o
+      → Answers e b relation (relationStage e b o)
+  pair-fails c f = fitting (c .fits) (fails-pair (c .starts) (c .related) (c .earlier) f)
 
-  says-answer : (s : Stage) → Says e b relation s → Answers e b relation s
-  unfolding Says
-  says-answer Passed (w, i, B) = fitting (record { whole = w; inside = i }) (related-iff-bisimulation .1 (indexed-chart e b (Related relation) .1 B))
-  says-answer (Refused (RelationLength p)) (q, h) = rw q (fails-40 h)
-  says-answer (Refused (PairNoVertex p q)) (w, f) = fails-41 w f
-  says-answer (Refused (PairStarts p q)) (F, g, k, h) = rw (g, k) (fitting F (fails-42 h))
-  says-answer (Refused (PairEnds p q)) (c, h) = says-pair c (fails-43 h)
-  says-answer (Refused (PairExpressionStep p q r)) (c, h, l) = says-pair c (fails-44 h l)
-  says-answer (Refused (PairChartStep p q r)) (c, h, a, l) = says-pair c (fails-45 h a l)
-  says-answer (Refused File) h = absurd h
-  says-answer (Refused (Record p)) h = absurd h
-  says-answer (Refused (RecordKind p q)) h = absurd h
-  says-answer (Refused (FileOffset p)) h = absurd h
-  says-answer (Refused (NodesLength p)) h = absurd h
-  says-answer (Refused (Node p)) h = absurd h
-  says-answer (Refused (NodeUses p q)) h = absurd h
-  says-answer (Refused ChartHeader) h = absurd h
-  says-answer (Refused (Transition p)) h = absurd h
-  says-answer (Refused (LabelsLength p)) h = absurd h
-  says-answer (Refused (Unreached p)) h = absurd h
-  says-answer (Refused (BranchCycle p)) h = absurd h
-  says-answer (Refused (LoopNoReturn p q)) h = absurd h
-  says-answer (Refused (LoopEndInside p q)) h = absurd h
-  says-answer (Refused (LoopNotLower p q r)) h = absurd h
-  says-answer (Refused (OutputLength p)) h = absurd h
+  answer-relation : {s : Stage} → RelationAnswer e b relation s → Answers e b relation s
+  answer-relation (passed F B) = fitting F (related-iff-bisimulation .1 (indexed-chart e b (Related relation) .1 B))
+  answer-relation (other-length h) = fails-40 h
+  answer-relation (no-vertex w f) = fails-41 w f
+  answer-relation (starts-unrelated F h) = fitting F (fails-42 h)
+  answer-relation (other-end c h) = pair-fails c (fails-43 h)
+  answer-relation (expression-alone c h l) = pair-fails c (fails-44 h l)
+  answer-relation (chart-alone c h a l) = pair-fails c (fails-45 h a l)
 
-  -- each answer, with its place, stands exactly where what it says holds
-  pub relation-says : (s : Stage) → (relationOf e b relation ≡ s) ↔ Says e b relation s
+  -- EACH ANSWER, with its place, stands exactly where what it says holds
+  pub relation-says : (s : Stage) → (relationOf e b relation ≡ s) ↔ RelationAnswer e b relation s
   relation-says s = (
-    (λ q. subst (Says e b relation) q (answers-say (relation-answers e b relation))),
-    (λ h. one-answer (relation-answers e b relation) (says-answer s h)),
+    (λ q. subst (RelationAnswer e b relation) q (relation-answer (relation-answers e b relation))),
+    (λ h. one-answer (relation-answers e b relation) (answer-relation h)),
   )
 
   -- NOTHING FAILS EXACTLY FOR A BISIMULATION OF THE TWO CHARTS
-  pub relation-iff-bisimulation : (relationOf e b relation ≡ Passed) ↔ ((length relation ≡ 16 * verticesOf e) × ((u v : ℕ) → relatedTest relation u v ≡ true → (u < verticesOf e) × (v < verticesOf b)) × Bisimulation (chart (startOf e) (transitionsOf e)) (chart (startOf b) (transitionsOf b)) (λ u v. relatedTest relation u v ≡ true))
-  unfolding Says
-  relation-iff-bisimulation = relation-says Passed
+  pub relation-iff-bisimulation : (relationOf e b relation ≡ Passed)
+      ↔ ((length relation ≡ 16 * verticesOf e) × ((u v : ℕ) → Related relation u v → (u < verticesOf e) × (v < verticesOf b))
+      × Bisimulation (chart (startOf e) (transitionsOf e)) (chart (startOf b) (transitionsOf b)) (Related relation))
+  relation-iff-bisimulation = (
+    (λ q. parts (relation-says Passed .0 q)),
+    (λ (w, i, B). relation-says Passed .1 (passed (record { whole = w; inside = i }) B)),
+  )
+    where
+      parts : RelationAnswer e b relation Passed
+          → (length relation ≡ 16 * verticesOf e) × ((u v : ℕ) → Related relation u v → (u < verticesOf e) × (v < verticesOf b))
+          × Bisimulation (chart (startOf e) (transitionsOf e)) (chart (startOf b) (transitionsOf b)) (Related relation)
+      parts (passed F B) = (F .whole, F .inside, B)

@@ -11,34 +11,23 @@ use lib.ListN.{length, getD, set, length-set, replicate, getD-replicate}
 use lib.Seq.{getD-set-same, getD-set-other}
 use borrow.Author.Count.{below-more}
 use borrow.Author.Tests.{eqb-true}
-use Rattle.bits.specs.Words.{On, With, Has, HasRow}
-use Rattle.bits.specs.Unions.{Above, Spread, Between}
-use Rattle.bits.proofs.Sets.{none, zero-off}
+use Rattle.theory.specs.Systems.{converse}
+use Rattle.bits.specs.declared.sets.Set.{Set}
+use Rattle.bits.specs.Words.{On, With}
+use Rattle.bits.specs.Sets.{Has, Members, SetFits}
+use Rattle.bits.specs.Tables.{Table, Gains, Above}
+use Rattle.bits.proofs.Words.{bit-below}
+use Rattle.bits.proofs.Members.{zero-off, low-has, high-has, has-low, has-high}
+use Rattle.bits.proofs.Gains.{gains-none, gains-as, gains-then, gained, table-as, table-gains}
 use Rattle.bisimulation.specs.Answers.{Related}
-use Rattle.bisimulation.specs.Suspects.{HalfRow, SameRow, RowSpread, rowAt, Run, RowsSpread, Identity, Columns, Acting, WordRun, Users, Used}
-use Rattle.bisimulation.proofs.Rows.{related-row}
+use Rattle.bisimulation.specs.Suspects.{SameRow, rowAt, Stretch, SameTarget, RowSpread, KeyInto, Identity, Acting, SameWord, UsedBy, Used}
+use Rattle.bisimulation.proofs.RowLaws.{related-row, has-related}
 
 -- what holds from at up to k, and at k, holds up to k + 1
 pub between-more : (P : ℕ → Type 0) {at : ℕ} (k : ℕ) → ((j : ℕ) → at ≤ j → j < k → P j) → P k → (j : ℕ) → at ≤ j → j < k + 1 → P j
 between-more P k h p j l m = by-cases (ℕ-discrete j k) (λ e. subst P (sym e) p) (λ e. h j l (omega arith))
 
--- a table begins with empty sets
-empty-row : (n w z : ℕ) → 2 * w + 2 ≤ n → ¬ HasRow (replicate {A = ℕ} n 0) w z
-empty-row n w z l h = none z (rw (getD-replicate {A = ℕ} n (2 * w) 0 0 (omega arith), getD-replicate {A = ℕ} n (2 * w + 1) 0 0 (omega arith)) at h)
-
--- `same_row`: halves that are the same
-pub same-halves : {relation : List ℕ} {a b p q r s : ℕ} → HalfRow relation a 0 p → HalfRow relation b 0 q → HalfRow relation a 1 r → HalfRow relation b 1 s → p ≡ q → r ≡ s → SameRow relation a b
-same-halves {relation} {a} {b} {p} {q} {r} {s} P Q R S e f w l =
-    by-cases (decLt w 64)
-    (λ m. let g : 64 * 0 + w ≡ w = omega arith in pick 0 w g m P Q e)
-    (λ m. let g : 64 * 1 + (w - 64) ≡ w = omega arith in pick 1 (w - 64) g (omega arith) R S f)
-  where
-    pick : (h j : ℕ) {x y : ℕ} → 64 * h + j ≡ w → j < 64 → HalfRow relation a h x → HalfRow relation b h y → x ≡ y → Related relation a w ↔ Related relation b w
-    pick h j {x} {y} g m X Y d = (
-      (λ t. rw g at (Y .exactly j m .0 (rw d at (X .exactly j m .1 (rw g t))))),
-      (λ t. rw g at (X .exactly j m .0 (rw d (Y .exactly j m .1 (rw g t))))),
-    )
-
+-- `same_row`: sets with the same words
 pub both-same : (p q r s : ℕ) → (eqb p q && eqb r s) ≡ true → (p ≡ q) × (r ≡ s)
 both-same p q r s h = go (eqb p q) (eqb r s) refl refl h
   where
@@ -47,83 +36,73 @@ both-same p q r s h = go (eqb p q) (eqb r s) refl refl h
     go true false e f h = absurd (false≢true h)
     go false y e f h = absurd (false≢true h)
 
--- `spread_row`: a row past the last has no bit
-pub row-past : {relation a : List ℕ} {rows u lo hi : ℕ} → length relation ≡ 16 * rows → rows ≤ u → RowSpread relation u lo hi a a
-row-past {relation} {a} {rows} {u} {lo} {hi} e l = record { long = refl; exactly = λ w z m. (inl, back w z) }
+same-has : (s t : Set) → s .lo ≡ t .lo → s .hi ≡ t .hi → (w : ℕ) → Has s w → Has t w
+same-has s t e f w h = record { below = h .below; on = rw (e, f) at (h .on) }
+
+pub same-sets : (relation : List ℕ) (a b : ℕ) {s t : Set} → Members (Related relation a) s → Members (Related relation b) t → s .lo ≡ t .lo → s .hi ≡ t .hi → SameRow relation a b
+same-sets relation a b {s} {t} S T e f w l = (
+  (λ r. T .exactly w l .0 (same-has s t e f w (S .exactly w l .1 r))),
+  (λ r. S .exactly w l .0 (same-has t s (sym e) (sym f) w (T .exactly w l .1 r))),
+)
+
+-- `spread_over`: a set's two words, one after the other
+pub over-both : {a b c : List ℕ} (over s : Set) → SetFits over → Gains (λ (w z : ℕ). Above 0 (over .lo) w × Has s z) a b → Gains (λ (w z : ℕ). Above 64 (over .hi) w × Has s z) b c → Gains (λ (w z : ℕ). Has over w × Has s z) a c
+over-both over s F P Q = gains-then P Q (λ w z l. (there w z, back w z))
   where
-    back : (w z : ℕ) → HasRow a w z ⊎ (Related relation u w × Has lo hi z) → HasRow a w z
-    back w z (inl h) = h
-    back w z (inr h) = absurd (omega (arith, related-row relation rows u w e (h .0)))
+    there : (w z : ℕ) → (Above 0 (over .lo) w × Has s z) ⊎ (Above 64 (over .hi) w × Has s z) → Has over w × Has s z
+    there w z (inl ((k, e, on), g)) = (subst (Has over) (omega arith) (low-has over k (bit-below 64 (over .lo) k (F .0) on) on), g)
+    there w z (inr ((k, e, on), g)) = (subst (Has over) (sym e) (high-has over k (bit-below 64 (over .hi) k (F .1) on) on), g)
 
--- the bits of a half of a row are columns that are there
-pub half-room : {relation : List ℕ} {u h x n : ℕ} → HalfRow relation u h x → n ≡ 256 → h < 2 → (k : ℕ) → On x k → 2 * (64 * h + k) + 2 ≤ n
-half-room H e l k on = omega (arith, H .within k on)
-
-pub row-both : {relation a b c : List ℕ} {u x y lo hi : ℕ} → HalfRow relation u 0 x → Spread a 0 x lo hi b → HalfRow relation u 1 y → Spread b 64 y lo hi c → RowSpread relation u lo hi a c
-row-both {relation} {a} {b} {c} {u} {x} {y} {lo} {hi} X P Y Q = record { long = Q .long ∙ P .long; exactly = λ w z l. (there w z l, back w z l) }
-  where
-    -- a bit of a half is a column
-    column : (h v w : ℕ) {p : ℕ} → 64 * h ≡ v → HalfRow relation u h p → Above v p w → Related relation u w
-    column h v w e H (k, f, on) = let g : 64 * h + k ≡ w = omega arith in rw g at (H .exactly k (H .within k on) .0 on)
-
-    first : (w z : ℕ) → HasRow a w z ⊎ (Above 0 x w × Has lo hi z) → HasRow a w z ⊎ (Related relation u w × Has lo hi z)
-    first w z (inl h) = inl h
-    first w z (inr (m, h)) = inr (column 0 0 w refl X m, h)
-
-    second : (w z : ℕ) → HasRow b w z ⊎ (Above 64 y w × Has lo hi z) → HasRow a w z ⊎ (Related relation u w × Has lo hi z)
-    second w z (inl h) = first w z (P .exactly w z .0 h)
-    second w z (inr (m, h)) = inr (column 1 64 w refl Y m, h)
-
-    there : (w z : ℕ) → w < 128 → HasRow c w z → HasRow a w z ⊎ (Related relation u w × Has lo hi z)
-    there w z l h = second w z (Q .exactly w z .0 h)
-
-    back : (w z : ℕ) → w < 128 → HasRow a w z ⊎ (Related relation u w × Has lo hi z) → HasRow c w z
-    back w z l (inl h) = Q .exactly w z .1 (inl (P .exactly w z .1 (inl h)))
-    back w z l (inr (r, h)) =
+    back : (w z : ℕ) → Has over w × Has s z → (Above 0 (over .lo) w × Has s z) ⊎ (Above 64 (over .hi) w × Has s z)
+    back w z (h, g) =
         by-cases (decLt w 64)
-        (λ m. let g : 64 * 0 + w ≡ w = omega arith in Q .exactly w z .1 (inl (P .exactly w z .1 (inr ((w, omega arith, X .exactly w m .1 (rw g r)), h)))))
-        (λ m. let g : 64 * 1 + (w - 64) ≡ w = omega arith in Q .exactly w z .1 (inr ((w - 64, omega arith, Y .exactly (w - 64) (omega arith) .1 (rw g r)), h)))
+        (λ l. inl ((w, omega arith, has-low over w l h), g))
+        (λ l. let q : w ≡ 64 + (w - 64) = omega arith in inr ((w - 64, q, has-high over (w - 64) (omega (arith, h .below)) (subst (Has over) q h)), g))
 
--- `row_run`
-pub run-first : (relation keys : List ℕ) (i j : ℕ) → i ≤ j → j < i + 1 → SameRow relation (rowAt keys i) (rowAt keys j)
-run-first relation keys i j l m w h = let e : j ≡ i = omega arith in rw e ((λ r. r), (λ r. r))
+-- `spread_row`: a row past the last has no bit
+pub row-past : (relation : List ℕ) {a : List ℕ} (rows u : ℕ) {s : Set} → length relation ≡ 16 * rows → rows ≤ u → RowSpread relation u s a a
+row-past relation rows u e l = gains-none (λ w z h. omega (arith, related-row relation rows u w e (h .0)))
+
+pub row-spread : (relation : List ℕ) (u : ℕ) {a c : List ℕ} {over s : Set} → Members (Related relation u) over → Gains (λ (w z : ℕ). Has over w × Has s z) a c → RowSpread relation u s a c
+row-spread relation u M G = gains-as (λ w z l. ((λ (h, g). (has-related relation u M w .0 h, g)), (λ (r, g). (has-related relation u M w .1 r, g)))) G
+
+-- `row_stretch`
+pub stretch-first : (relation keys : List ℕ) (i j : ℕ) → i ≤ j → j < i + 1 → SameTarget relation keys i j
+stretch-first relation keys i j l m w h = let e : j ≡ i = omega arith in rw e ((λ r. r), (λ r. r))
 
 -- `spread_rows`: the first i keys
-pub rows-none : (relation keys : List ℕ) → RowsSpread relation keys 0 (replicate {A = ℕ} 256 0)
-rows-none relation keys = record { long = refl; exactly = λ w z l m. ((λ h. absurd (empty-row 256 w z (omega arith) h)), (λ h. absurd (omega (arith, h .0)))) }
+pub rows-none : (relation keys : List ℕ) → Table 128 (KeyInto relation keys 0) (replicate {A = ℕ} 256 0)
+rows-none relation keys = gained {P = KeyInto relation keys 0} 128 256 refl (gains-none (λ w z h. omega (arith, h .0)))
 
-pub rows-more : {relation keys t t′ pair : List ℕ} {n i b : ℕ} → RowsSpread relation keys i t → Run relation keys n i b → Between i b pair → RowSpread relation (rowAt keys i) (getD pair 0 0) (getD pair 1 0) t t′ → RowsSpread relation keys b t′
-rows-more {relation} {keys} {t} {t′} {pair} {n} {i} {b} S U B R = record {
-  long = R .long ∙ S .long;
-  exactly = λ w z l m. ((λ h. there w z l m (R .exactly w z l .0 h)), (λ h. R .exactly w z l .1 (back w z l m (h .0) (h .1))));
-}
+pub rows-more : (relation keys : List ℕ) (i : ℕ) {n b : ℕ} {t t′ : List ℕ} {s : Set} → Table 128 (KeyInto relation keys i) t → Stretch (SameTarget relation keys i) n i b → Members (λ (w : ℕ). (i ≤ w) × (w < b)) s → RowSpread relation (rowAt keys i) s t t′ → Table 128 (KeyInto relation keys b) t′
+rows-more relation keys i {n} {b} {t} {t′} {s} T U B R = table-as (λ w z l m. (there w z l m, back w z l m)) (table-gains T R)
   where
-    there : (w z : ℕ) → w < 128 → z < 128 → HasRow t w z ⊎ (Related relation (rowAt keys i) w × Has (getD pair 0 0) (getD pair 1 0) z) → (z < b) × Related relation (rowAt keys z) w
-    there w z l m (inl h) = let (p, q) = S .exactly w z l m .0 h in (omega (arith, U .some), q)
-    there w z l m (inr (r, h)) = let (p, q) = B .exactly z m .0 h in (q, U .same z p q w l .0 r)
+    there : (w z : ℕ) → w < 128 → z < 128 → KeyInto relation keys i w z ⊎ (Related relation (rowAt keys i) w × Has s z) → KeyInto relation keys b w z
+    there w z l m (inl (p, q)) = (omega (arith, U .some), q)
+    there w z l m (inr (r, h)) = let (p, q) = B .exactly z m .0 h in (q, U .each z p q w l .0 r)
 
-    back : (w z : ℕ) → w < 128 → z < 128 → z < b → Related relation (rowAt keys z) w → HasRow t w z ⊎ (Related relation (rowAt keys i) w × Has (getD pair 0 0) (getD pair 1 0) z)
-    back w z l m h r =
+    back : (w z : ℕ) → w < 128 → z < 128 → KeyInto relation keys b w z → KeyInto relation keys i w z ⊎ (Related relation (rowAt keys i) w × Has s z)
+    back w z l m (h, r) =
         by-cases (decLt z i)
-        (λ p. inl (S .exactly w z l m .1 (p, r)))
-        (λ p. inr (U .same z (omega arith) h w l .1 r, B .exactly z m .1 (omega arith, h)))
+        (λ p. inl (p, r))
+        (λ p. inr (U .each z (omega arith) h w l .1 r, B .exactly z m .1 (omega arith, h)))
 
 -- `identity`
 pub own-more : (own : List ℕ) (i : ℕ) → i < length own → ((j : ℕ) → j < i → getD own j 0 ≡ j) → (j : ℕ) → j < i + 1 → getD (set own i i) j 0 ≡ j
 own-more own i l h = below-more (λ (j : ℕ). getD (set own i i) j 0 ≡ j) i (λ j m. getD-set-other own i j i 0 (λ e. omega arith) ∙ h j m) (getD-set-same own i i 0 l)
 
 -- `columns`: each row has its own number
-pub own-columns : {relation own t : List ℕ} {rows : ℕ} → length relation ≡ 16 * rows → rows ≤ 128 → Identity own → RowsSpread relation own rows t → Columns relation t
-own-columns {relation} {own} {t} {rows} e l I S = record { long = S .long; exactly = λ u v m w. (there u v m w, back u v m w) }
+pub own-columns : (relation : List ℕ) {own t : List ℕ} (rows : ℕ) → length relation ≡ 16 * rows → Identity own → Table 128 (KeyInto relation own rows) t → Table 128 (converse (Related relation)) t
+own-columns relation {own} {t} rows e I S = table-as (λ v u l m. (there v u m, back v u m)) S
   where
     itself : (u : ℕ) → u < 128 → rowAt own u ≡ u
     itself u m = omega (arith, I .own u m)
 
-    there : (u v : ℕ) → u < 128 → v < 128 → HasRow t v u → Related relation u v
-    there u v m w h = rw (itself u m) at (S .exactly v u w m .0 h .1)
+    there : (v u : ℕ) → u < 128 → KeyInto relation own rows v u → Related relation u v
+    there v u m (h, r) = rw (itself u m) at r
 
-    back : (u v : ℕ) → u < 128 → v < 128 → Related relation u v → HasRow t v u
-    back u v m w r = S .exactly v u w m .1 (related-row relation rows u v e r, rw (itself u m) r)
+    back : (v u : ℕ) → u < 128 → Related relation u v → KeyInto relation own rows v u
+    back v u m r = (related-row relation rows u v e r, rw (itself u m) r)
 
 -- `acting`: the first k steps
 pub acting-none : (keys : List ℕ) → Acting keys 0 (replicate {A = ℕ} 256 0)
@@ -149,31 +128,21 @@ acting-more {keys} {t} {k} {a} {r} A e l W = record { long = length-set t a r �
     )
 
 -- `users`: the first n rows
-pub record UsersBelow (words : List ℕ) (n : ℕ) (t : List ℕ) : Type 0 where
-  pub long : length t ≡ 128
-  pub exactly : (k u : ℕ) → k < 64 → u < 128 → HasRow t k u ↔ ((u < n) × On (getD words u 0) k)
+pub users-none : (words : List ℕ) → Table 64 (UsedBy words 0) (replicate {A = ℕ} 128 0)
+users-none words = gained {P = UsedBy words 0} 64 128 refl (gains-none (λ k u h. omega (arith, h .0)))
 
-pub users-none : (words : List ℕ) → UsersBelow words 0 (replicate {A = ℕ} 128 0)
-users-none words = record { long = refl; exactly = λ k u l m. ((λ h. absurd (empty-row 128 k u (omega arith) h)), (λ h. absurd (omega (arith, h .0)))) }
-
-pub users-more : {words t t′ pair : List ℕ} {rows n b : ℕ} → UsersBelow words n t → WordRun words rows n b → Between n b pair → Spread t 0 (getD words n 0) (getD pair 0 0) (getD pair 1 0) t′ → UsersBelow words b t′
-users-more {words} {t} {t′} {pair} {rows} {n} {b} U R B S = record {
-  long = S .long ∙ U .long;
-  exactly = λ k u l m. ((λ h. there k u l m (S .exactly k u .0 h)), (λ h. S .exactly k u .1 (back k u l m (h .0) (h .1))));
-}
+pub users-more : (words : List ℕ) (n : ℕ) {rows b : ℕ} {t t′ : List ℕ} {s : Set} → Table 64 (UsedBy words n) t → Stretch (SameWord words n) rows n b → Members (λ (w : ℕ). (n ≤ w) × (w < b)) s → Gains (λ (k z : ℕ). Above 0 (getD words n 0) k × Has s z) t t′ → Table 64 (UsedBy words b) t′
+users-more words n {rows} {b} {t} {t′} {s} T R B G = table-as (λ k u l m. (there k u m, back k u m)) (table-gains T G)
   where
-    there : (k u : ℕ) → k < 64 → u < 128 → HasRow t k u ⊎ (Above 0 (getD words n 0) k × Has (getD pair 0 0) (getD pair 1 0) u) → (u < b) × On (getD words u 0) k
-    there k u l m (inl h) = let (p, q) = U .exactly k u l m .0 h in (omega (arith, R .some), q)
-    there k u l m (inr ((j, f, on), h)) = let (p, q) = B .exactly u m .0 h in let g : j ≡ k = omega arith in (q, rw (R .same u p q) (rw g at on))
+    there : (k u : ℕ) → u < 128 → UsedBy words n k u ⊎ (Above 0 (getD words n 0) k × Has s u) → UsedBy words b k u
+    there k u m (inl (p, q)) = (omega (arith, R .some), q)
+    there k u m (inr ((j, f, on), h)) = let (p, q) = B .exactly u m .0 h in let g : j ≡ k = omega arith in (q, rw (R .each u p q) (rw g at on))
 
-    back : (k u : ℕ) → k < 64 → u < 128 → u < b → On (getD words u 0) k → HasRow t k u ⊎ (Above 0 (getD words n 0) k × Has (getD pair 0 0) (getD pair 1 0) u)
-    back k u l m h on =
+    back : (k u : ℕ) → u < 128 → UsedBy words b k u → UsedBy words n k u ⊎ (Above 0 (getD words n 0) k × Has s u)
+    back k u m (h, on) =
         by-cases (decLt u n)
-        (λ p. inl (U .exactly k u l m .1 (p, on)))
-        (λ p. inr ((k, omega arith, rw (R .same u (omega arith) h) at on), B .exactly u m .1 (omega arith, h)))
-
-pub users-all : {words t : List ℕ} {n rows : ℕ} → UsersBelow words n t → n ≡ rows → rows ≤ 128 → Users words rows t
-users-all {words} {t} {n} {rows} U e l = record { long = U .long; exactly = λ k u i m. ((λ h. U .exactly k u i (omega arith) .0 h .1), (λ on. U .exactly k u i (omega arith) .1 (omega arith, on))) }
+        (λ p. inl (p, on))
+        (λ p. inr ((k, omega arith, rw (R .each u (omega arith) h) at on), B .exactly u m .1 (omega arith, h)))
 
 -- `used`: the first n rows
 pub used-more : (words : List ℕ) (n x r : ℕ) → Used words n x → ((j : ℕ) → On r j ↔ (On x j ⊎ On (getD words n 0) j)) → Used words (n + 1) r

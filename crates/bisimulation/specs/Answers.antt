@@ -1,4 +1,4 @@
--- What the stages of the checks 40 to 45 answer, and what their searches find: the contracts of the code.
+-- What the stages of the checks 40 to 45 answer: the contracts of the code.
 use mathlib.Core.Path.{_≡_}
 use mathlib.Core.Bool.{true}
 use mathlib.Core.List.{List}
@@ -13,59 +13,73 @@ use Rattle.report.specs.declared.Stage.the-variants.{Passed, Refused}
 use Rattle.chart.specs.Bodies.{verticesOf, startOf}
 use Rattle.chart.specs.Checks.{checkOf}
 use Rattle.chart.specs.Numbered.{Numbered}
-use Rattle.bisimulation.specs.Relations.{indexedOf, relatedTest, answered, relationOf}
+use Rattle.bisimulation.specs.Relations.{indexedOf, relatedTest, relationStage, relationOf}
 
 -- expression vertex u is related to chart vertex v
 abbrev pub Related : List ℕ → ℕ → ℕ → Type 0
 Related relation u v = relatedTest relation u v ≡ true
 
 -- 41: a bit for a vertex of V or above
-abbrev pub Stray : List ℕ → List ℕ → ℕ → ℕ → Type 0
-Stray body relation u v = (verticesOf body ≤ v) × Related relation u v
+abbrev pub StrayBit : List ℕ → List ℕ → ℕ → ℕ → Type 0
+StrayBit body relation u v = (verticesOf body ≤ v) × Related relation u v
 
 -- 40 and 41 pass
-pub record Fits (expression body relation : List ℕ) : Type 0 where
+pub record RelationFits (expression body relation : List ℕ) : Type 0 where
   pub whole : length relation ≡ 16 * verticesOf expression
   pub inside : (u v : ℕ) → Related relation u v → (u < verticesOf expression) × (v < verticesOf body)
 
--- 43 to 45 pass for one pair
-abbrev pub Passes : (expression body relation : List ℕ) → ℕ → ℕ → Type 0
-Passes expression body relation u v = PairPasses (indexedOf expression) (indexedOf body) (Related relation) u v
-
--- some outcome of a pair that fails stands for this answer
-abbrev pub Fails : (expression body relation : List ℕ) → ℕ → ℕ → Stage → Type 0
-Fails expression body relation u v s = (o : RelationOutcome) × PairFails (indexedOf expression) (indexedOf body) (Related relation) u v o × (s ≡ answered expression body o)
-
--- what 43 to 45 answer for one pair
-pub record PairAnswer (expression body relation : List ℕ) (u v : ℕ) (s : Stage) : Type 0 where
-  pub passed : s ≡ Passed → Related relation u v → Passes expression body relation u v
-  pub refused : (p : Place) → s ≡ Refused p → Related relation u v × Fails expression body relation u v s
-
--- what they answer for the pairs of row u, by column
-pub record RowAnswer (expression body relation : List ℕ) (u : ℕ) (s : Stage) : Type 0 where
-  pub passed : s ≡ Passed → (v : ℕ) → Related relation u v → Passes expression body relation u v
-  pub refused : (p : Place) → s ≡ Refused p → (v : ℕ) × Related relation u v × ((w : ℕ) → w < v → Related relation u w → Passes expression body relation u w) × Fails expression body relation u v s
-
--- what 42 to 45 answer
-abbrev pub CheckedAnswer : (expression body relation : List ℕ) → Stage → Type 0
-CheckedAnswer expression body relation s = (o : RelationOutcome) × RelationChecked (indexedOf expression) (indexedOf body) (Related relation) o × (s ≡ answered expression body o)
-
 -- what 41 answers
 pub record StrayAnswer (body relation : List ℕ) (s : Stage) : Type 0 where
-  pub passed : s ≡ Passed → (u v : ℕ) → ¬ Stray body relation u v
-  pub refused : (p : Place) → s ≡ Refused p → (u v : ℕ) × FirstPair (Stray body relation) u v × (s ≡ Refused (PairNoVertex u v))
+  pub passed : s ≡ Passed → (u v : ℕ) → ¬ StrayBit body relation u v
+  pub refused : (p : Place) → s ≡ Refused p
+      → (u v : ℕ) × FirstPair (StrayBit body relation) u v × (s ≡ Refused (PairNoVertex u v))
 
--- what 40 to 42 answer, of every expression's chart with so many vertices and this start
-pub record OpeningAnswer (vertices start : ℕ) (body relation : List ℕ) (s : Stage) : Type 0 where
-  pub refused : (p : Place) → s ≡ Refused p → (e : List ℕ) → verticesOf e ≡ vertices → startOf e ≡ start → s ≡ relationOf e body relation
-  pub passed : s ≡ Passed → (e : List ℕ) → verticesOf e ≡ vertices → startOf e ≡ start → Fits e body relation × Related relation (startOf e) (startOf body)
+module _ (expression body relation : List ℕ) where
+  -- 43 to 45 pass for one pair
+  abbrev pub Passes : ℕ → ℕ → Type 0
+  Passes u v = PairPasses (indexedOf expression) (indexedOf body) (Related relation) u v
 
--- what 43 to 45 answer where 40 to 42 pass, of every expression's chart with so many vertices and these numbers of its steps
+  -- some outcome of a pair that fails stands for this answer
+  abbrev pub FailsWith : ℕ → ℕ → Stage → Type 0
+  FailsWith u v s = (o : RelationOutcome)
+      × PairFails (indexedOf expression) (indexedOf body) (Related relation) u v o
+      × (s ≡ relationStage expression body o)
+
+  -- what 43 to 45 answer for one pair
+  pub record PairAnswer (u v : ℕ) (s : Stage) : Type 0 where
+    pub passed : s ≡ Passed → Related relation u v → Passes u v
+    pub refused : (p : Place) → s ≡ Refused p → Related relation u v × FailsWith u v s
+
+  -- the first pair of row u that fails is that of column v
+  pub record FirstFails (u v : ℕ) (s : Stage) : Type 0 where
+    pub related : Related relation u v
+    pub before : (w : ℕ) → w < v → Related relation u w → Passes u w
+    pub fails : FailsWith u v s
+
+  -- what they answer for the pairs of row u, by column
+  pub record RowAnswer (u : ℕ) (s : Stage) : Type 0 where
+    pub passed : s ≡ Passed → (v : ℕ) → Related relation u v → Passes u v
+    pub refused : (p : Place) → s ≡ Refused p → (v : ℕ) × FirstFails u v s
+
+  -- what 42 to 45 answer
+  abbrev pub CheckedAnswer : Stage → Type 0
+  CheckedAnswer s = (o : RelationOutcome)
+      × RelationChecked (indexedOf expression) (indexedOf body) (Related relation) o
+      × (s ≡ relationStage expression body o)
+
+-- the expression's chart has so many vertices and these numbers of its steps, and 40 to 42 pass
+pub record NumberedChart (keys words : List ℕ) (m vertices : ℕ) (body relation expression : List ℕ) : Type 0 where
+  pub passes : checkOf expression ≡ Passed
+  pub size : verticesOf expression ≡ vertices
+  pub numbered : Numbered expression keys words m
+  pub fits : RelationFits expression body relation
+  pub starts : Related relation (startOf expression) (startOf body)
+
+-- there is such a chart
+abbrev pub SomeChart : (keys words : List ℕ) → (m vertices : ℕ) → (body relation : List ℕ) → Type 0
+SomeChart keys words m vertices body relation = (e : List ℕ) × NumberedChart keys words m vertices body relation e
+
+-- what 43 to 45 answer, of every such chart
 abbrev pub PairsAnswer : (keys words : List ℕ) → (m vertices : ℕ) → (body relation : List ℕ) → Stage → Type 0
-PairsAnswer keys words m vertices body relation s = (e : List ℕ) → checkOf e ≡ Passed → verticesOf e ≡ vertices → Numbered e keys words m → Fits e body relation → Related relation (startOf e) (startOf body) → s ≡ relationOf e body relation
-
--- from column v on, r is the first of row u with a bit, or 128 where there is none
-pub record FirstColumn (relation : List ℕ) (u v r : ℕ) : Type 0 where
-  pub from : v ≤ r
-  pub related : r < 128 → Related relation u r
-  pub below : (w : ℕ) → v ≤ w → w < r → ¬ Related relation u w
+PairsAnswer keys words m vertices body relation s =
+    (e : List ℕ) → NumberedChart keys words m vertices body relation e → s ≡ relationOf e body relation

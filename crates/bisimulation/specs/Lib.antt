@@ -1,7 +1,8 @@
--- The definitions: the tests, the contracts of the searches, and what each answer says.
+-- The definitions. The meaning: RelationAnswers, with Related, RelationFits and Passes in Answers. The tests:
+-- Relations. The rest of Answers, Suspects, Places and Pairs are contracts of the code, and only serve proofs.
+pub mod RelationAnswers
 pub mod Relations
 pub mod Answers
-pub mod Meaning
 pub mod Suspects
 pub mod Places
 pub mod Pairs

@@ -1,32 +1,37 @@
 // 43 to 45 of the pairs which the sets do not let pass, and the place of the first refusal.
 use super::clearing::matching;
 use super::places::step_place;
-use bits::but;
+use bits::Set;
+use bits::bit_and_not;
+use bits::bit_or;
 use bits::byte;
-use bits::either;
-use bits::holds;
-use bits::lowest;
+use bits::lowest_bit;
 use bits::meets;
+use bits::tables::row;
 use report::Place;
 use report::Stage;
 ghost use mathlib.Core.Path.{_≡_};
 ghost use mathlib.Core.Logic.{_↔_};
 ghost use Prim.Native.Nat.{ℕ, _≤_, _<_};
-ghost use lib.ListN.{length, getD};
+ghost use lib.ListN.{length};
 ghost use Rattle.bits.specs.Words.{On};
-ghost use Rattle.chart.specs.Bodies.{verticesOf, countOf, WellFormed};
-ghost use Rattle.bisimulation.specs.Suspects.{MatchedIn};
-ghost use Rattle.bisimulation.specs.Pairs.{Ready, Alone, Union, PairTold, PairSought, RowSought, AllSought};
+ghost use Rattle.bits.specs.First.{First};
+ghost use Rattle.bits.specs.Sets.{Members};
+ghost use Rattle.chart.specs.Bodies.{verticesOf, countOf};
+ghost use Rattle.bisimulation.specs.Suspects.{Tabled, MatchedIn};
+ghost use Rattle.bisimulation.specs.Pairs.{Ready, Alone, Suspect};
+ghost use Rattle.bisimulation.specs.Pairs.{RelatedAnswer, PairSought, RowSought, AllSought};
 
 // The steps that match one of the transitions from a up to b.
 fn matched(into: &[u64; 256], acting: &[u64; 256], body: &[u8], a: usize, b: usize) -> u64
-    requires { ⌜ WellFormed (now body) × (length (now into) ≡ 256) × (length (now acting) ≡ 256) × (a ≤ b) × (b ≤ countOf (now body)) ⌝ }
-    ensures { λ r. ⌜ ((k : ℕ) → On r k ↔ MatchedIn (now (into .entry)) (now (acting .entry)) (now (body .entry)) a b k) ⌝ }
+    requires { ⌜ Tabled (now into) (now acting) (now body) × (a ≤ b) × (b ≤ countOf (now body)) ⌝ }
+    ensures { λ r. ⌜ ((k : ℕ) → On r k
+        ↔ MatchedIn (now (into .entry)) (now (acting .entry)) (now (body .entry)) a b k) ⌝ }
 {
     let mut steps: u64 = 0;
     let mut i = a;
     while i < b {
-        steps = either(steps, matching(into, acting, body, i));
+        steps = bit_or(steps, matching(into, acting, body, i));
         i += 1;
     }
     steps
@@ -41,8 +46,8 @@ fn alone(
     b: usize,
     steps: u64,
 ) -> usize
-    requires { ⌜ WellFormed (now body) × (length (now into) ≡ 256) × (length (now acting) ≡ 256) × (a ≤ b) × (b ≤ countOf (now body)) ⌝ }
-    ensures { λ r. ⌜ Alone (now (into .entry)) (now (acting .entry)) (now (body .entry)) a b steps r ⌝ }
+    requires { ⌜ Tabled (now into) (now acting) (now body) × (a ≤ b) × (b ≤ countOf (now body)) ⌝ }
+    ensures { λ r. ⌜ First (Alone (now (into .entry)) (now (acting .entry)) (now (body .entry)) steps) a b r ⌝ }
 {
     let mut i = a;
     while i < b {
@@ -55,26 +60,27 @@ fn alone(
 }
 
 // 43, 44 and 45 of a related pair.
-fn pair(
+fn check_pair(
     into: &[u64; 256],
     acting: &[u64; 256],
     words: &[u64; 128],
     body: &[u8],
-    rows: &[usize; 129],
+    begins: &[usize; 129],
     u: usize,
     v: usize,
 ) -> Stage
-    requires { ⌜ Ready (now into) (now acting) (now words) (now body) (now rows) × (u < 128) × (v < 128) ⌝ }
-    ensures { λ r. ⌜ PairTold (now (into .entry)) (now (acting .entry)) (now (words .entry)) (now (body .entry)) u v r ⌝ }
+    requires { ⌜ Ready (now into) (now acting) (now words) (now body) (now begins) × (u < 128) × (v < 128) ⌝ }
+    ensures { λ r. ⌜ RelatedAnswer (now (into .entry)) (now (acting .entry)) (now (words .entry)) (now (body .entry))
+        u v r ⌝ }
 {
     if (u == 0) != (v == 0) {
         return Stage::Refused(Place::PairEnds(u, v));
     }
-    let a = rows[v];
-    let b = rows[v + 1];
-    let left = but(words[u], matched(into, acting, body, a, b));
+    let a = begins[v];
+    let b = begins[v + 1];
+    let left = bit_and_not(words[u], matched(into, acting, body, a, b));
     if left != 0 {
-        let i = step_place(words, u, lowest(left));
+        let i = step_place(words, u, lowest_bit(left));
         return Stage::Refused(Place::PairExpressionStep(u, v, i));
     }
     let j = alone(into, acting, body, a, b, words[u]);
@@ -91,36 +97,43 @@ fn suspect_pair(
     words: &[u64; 128],
     table: &[u64; 256],
     body: &[u8],
-    rows: &[usize; 129],
+    begins: &[usize; 129],
     u: usize,
     v: usize,
 ) -> Stage
-    requires { ⌜ Ready (now into) (now acting) (now words) (now body) (now rows) × (length (now table) ≡ 256) × (u < 128) × (v < verticesOf (now body)) ⌝ }
-    ensures { λ r. ⌜ PairSought (now (into .entry)) (now (acting .entry)) (now (words .entry)) (now (table .entry)) (now (body .entry)) u v r ⌝ }
+    requires { ⌜ Ready (now into) (now acting) (now words) (now body) (now begins)
+        × (length (now table) ≡ 256)
+        × (u < 128)
+        × (v < verticesOf (now body)) ⌝ }
+    ensures { λ r. ⌜ PairSought (now (into .entry)) (now (acting .entry)) (now (words .entry)) (now (table .entry))
+        (now (body .entry)) u v r ⌝ }
 {
-    if !holds(table[2 * v], table[2 * v + 1], u) {
+    if !row(table, v).contains(u) {
         return Stage::Passed;
     }
-    pair(into, acting, words, body, rows, u, v)
+    check_pair(into, acting, words, body, begins, u, v)
 }
 
 // 43, 44 and 45 of the pairs of row u, by column.
-fn row(
+fn check_row(
     into: &[u64; 256],
     acting: &[u64; 256],
     words: &[u64; 128],
     table: &[u64; 256],
     body: &[u8],
-    rows: &[usize; 129],
+    begins: &[usize; 129],
     u: usize,
 ) -> Stage
-    requires { ⌜ Ready (now into) (now acting) (now words) (now body) (now rows) × (length (now table) ≡ 256) × (u < 128) ⌝ }
-    ensures { λ r. ⌜ RowSought (now (into .entry)) (now (acting .entry)) (now (words .entry)) (now (table .entry)) (now (body .entry)) u r ⌝ }
+    requires { ⌜ Ready (now into) (now acting) (now words) (now body) (now begins)
+        × (length (now table) ≡ 256)
+        × (u < 128) ⌝ }
+    ensures { λ r. ⌜ RowSought (now (into .entry)) (now (acting .entry)) (now (words .entry)) (now (table .entry))
+        (now (body .entry)) u r ⌝ }
 {
     let columns = byte(body, 0);
     let mut v: usize = 0;
     while v < columns {
-        let answer = suspect_pair(into, acting, words, table, body, rows, u, v);
+        let answer = suspect_pair(into, acting, words, table, body, begins, u, v);
         let Stage::Passed = answer else {
             return answer;
         };
@@ -129,41 +142,42 @@ fn row(
     Stage::Passed
 }
 
-// 43, 44 and 45 of the pairs of row u, where it is in the set (lo, hi) of the rows that may be refused.
+// 43, 44 and 45 of the pairs of row u, where it is in the set of the rows that may be refused.
 fn suspect_row(
     into: &[u64; 256],
     acting: &[u64; 256],
     words: &[u64; 128],
     table: &[u64; 256],
     body: &[u8],
-    rows: &[usize; 129],
+    begins: &[usize; 129],
     u: usize,
-    lo: u64,
-    hi: u64,
+    set: Set,
 ) -> Stage
-    requires { ⌜ Ready (now into) (now acting) (now words) (now body) (now rows) × (length (now table) ≡ 256) × (u < 128) × Union (now table) 128 lo hi ⌝ }
-    ensures { λ r. ⌜ RowSought (now (into .entry)) (now (acting .entry)) (now (words .entry)) (now (table .entry)) (now (body .entry)) u r ⌝ }
+    requires { ⌜ Ready (now into) (now acting) (now words) (now body) (now begins)
+        × (length (now table) ≡ 256)
+        × (u < 128)
+        × Members (Suspect (now table) 128) set ⌝ }
+    ensures { λ r. ⌜ RowSought (now (into .entry)) (now (acting .entry)) (now (words .entry)) (now (table .entry))
+        (now (body .entry)) u r ⌝ }
 {
-    if !holds(lo, hi, u) {
+    if !set.contains(u) {
         return Stage::Passed;
     }
-    row(into, acting, words, table, body, rows, u)
+    check_row(into, acting, words, table, body, begins, u)
 }
 
-// The rows of all sets of a table.
-fn union(table: &[u64; 256]) -> [u64; 2]
+// The rows that are in some set of a table.
+fn suspects(table: &[u64; 256]) -> Set
     requires { ⌜ length (now table) ≡ 256 ⌝ }
-    ensures { λ r. ⌜ (length r ≡ 2) × Union (now (table .entry)) 128 (getD r 0 0) (getD r 1 0) ⌝ }
+    ensures { λ r. ⌜ Members (Suspect (now (table .entry)) 128) r ⌝ }
 {
-    let mut lo: u64 = 0;
-    let mut hi: u64 = 0;
+    let mut all = Set::empty();
     let mut v: usize = 0;
     while v < 128 {
-        lo = either(lo, table[2 * v]);
-        hi = either(hi, table[2 * v + 1]);
+        all = all.union(row(table, v));
         v += 1;
     }
-    [lo, hi]
+    all
 }
 
 // 43, 44 and 45 of every pair, by row: also at vertices that nothing reaches.
@@ -173,21 +187,22 @@ pub(crate) fn search(
     words: &[u64; 128],
     table: &[u64; 256],
     body: &[u8],
-    rows: &[usize; 129],
+    begins: &[usize; 129],
     vertices: usize,
 ) -> Stage
-    requires { ⌜ Ready (now into) (now acting) (now words) (now body) (now rows) × (length (now table) ≡ 256) × (vertices ≤ 128) ⌝ }
-    ensures { λ r. ⌜ AllSought (now (into .entry)) (now (acting .entry)) (now (words .entry)) (now (table .entry)) (now (body .entry)) vertices r ⌝ }
+    requires { ⌜ Ready (now into) (now acting) (now words) (now body) (now begins)
+        × (length (now table) ≡ 256)
+        × (vertices ≤ 128) ⌝ }
+    ensures { λ r. ⌜ AllSought (now (into .entry)) (now (acting .entry)) (now (words .entry)) (now (table .entry))
+        (now (body .entry)) vertices r ⌝ }
 {
-    let set = union(table);
-    let lo = set[0];
-    let hi = set[1];
-    if (lo == 0) & (hi == 0) {
+    let set = suspects(table);
+    if set.is_empty() {
         return Stage::Passed;
     }
     let mut u: usize = 0;
     while u < vertices {
-        let answer = suspect_row(into, acting, words, table, body, rows, u, lo, hi);
+        let answer = suspect_row(into, acting, words, table, body, begins, u, set);
         let Stage::Passed = answer else {
             return answer;
         };

@@ -1,6 +1,6 @@
 // Where a step of the expression stands among the transitions of its chart, which is not written.
-use bits::count;
-use bits::count_below;
+use bits::count_bits;
+use bits::count_bits_below;
 ghost use mathlib.Core.Path.{_≡_};
 ghost use Prim.Native.Nat.{_*_, _≤_, _<_};
 ghost use lib.ListN.{length};
@@ -14,7 +14,7 @@ fn first_place(words: &[u64; 128], u: usize) -> usize
     let mut at: usize = 0;
     let mut x: usize = 0;
     while x < u {
-        at += count(words[x]);
+        at += count_bits(words[x]);
         x += 1;
     }
     at
@@ -25,5 +25,5 @@ pub(crate) fn step_place(words: &[u64; 128], u: usize, k: usize) -> usize
     requires { ⌜ (length (now words) ≡ 128) × (u < 128) × (k < 64) ⌝ }
     ensures { λ r. ⌜ StepPlace (now (words .entry)) u k r ⌝ }
 {
-    first_place(words, u) + count_below(words[u], k)
+    first_place(words, u) + count_bits_below(words[u], k)
 }

@@ -1,15 +1,20 @@
 // The tables by which the suspects are found: sets of rows, and sets and words of steps.
-use super::halves::half_row;
-use bits::between;
-use bits::either;
-use bits::spread;
-use bits::with;
+use super::rows::read_row;
+use bits::Set;
+use bits::bit_or;
+use bits::tables::spread;
+use bits::with_bit;
 ghost use mathlib.Core.Path.{_≡_};
 ghost use mathlib.Core.Bool.{true};
 ghost use Prim.Native.Nat.{ℕ, _*_, _≤_, _<_};
 ghost use lib.ListN.{length, getD};
 ghost use Rattle.bits.specs.Words.{On};
-ghost use Rattle.bisimulation.specs.Suspects.{SameRow, RowSpread, Run, RowsSpread, Identity, Columns, Acting, WordRun, Users, Used};
+ghost use Rattle.bits.specs.Sets.{Has};
+ghost use Rattle.bits.specs.Tables.{Table, Gains};
+ghost use Rattle.theory.specs.Systems.{converse};
+ghost use Rattle.bisimulation.specs.Answers.{Related};
+ghost use Rattle.bisimulation.specs.Suspects.{SameRow, Stretch, SameTarget, RowSpread, KeyInto, Identity};
+ghost use Rattle.bisimulation.specs.Suspects.{Acting, SameWord, UsedBy, Used};
 
 // Whether rows a and b are there and the same.
 fn same_row(relation: &[u8], rows: usize, a: usize, b: usize) -> bool
@@ -22,26 +27,35 @@ fn same_row(relation: &[u8], rows: usize, a: usize, b: usize) -> bool
     if b >= rows {
         return false;
     }
-    (half_row(relation, a, 0) == half_row(relation, b, 0))
-        & (half_row(relation, a, 1) == half_row(relation, b, 1))
+    let row = read_row(relation, a);
+    let other = read_row(relation, b);
+    (row.lo == other.lo) & (row.hi == other.hi)
 }
 
-// Puts the set (lo, hi) into the sets of a table for the vertices that row u is related to; a row past the last has none.
-fn spread_row(relation: &[u8], rows: usize, u: usize, lo: u64, hi: u64, table: &mut [u64])
+// Puts a set into set w of a table, for each w of the vertices.
+fn spread_over(table: &mut [u64], vertices: Set, set: Set)
+    requires { ⌜ length (now table) ≡ 256 ⌝ }
+    ensures { λ _. ⌜ Gains (λ (w z : ℕ). Has vertices w × Has set z) (now (table .entry)) (now (table .exit)) ⌝ }
+{
+    spread(table, 0, vertices.lo, set);
+    spread(table, 64, vertices.hi, set);
+}
+
+// Puts a set into the sets of a table for the vertices that row u is related to; a row past the last has none.
+fn spread_row(relation: &[u8], rows: usize, u: usize, set: Set, table: &mut [u64])
     requires { ⌜ (length (now relation) ≡ 16 * rows) × (length (now table) ≡ 256) ⌝ }
-    ensures { λ _. ⌜ RowSpread (now (relation .entry)) u lo hi (now (table .entry)) (now (table .exit)) ⌝ }
+    ensures { λ _. ⌜ RowSpread (now (relation .entry)) u set (now (table .entry)) (now (table .exit)) ⌝ }
 {
     if u >= rows {
         return;
     }
-    spread(table, 0, half_row(relation, u, 0), lo, hi);
-    spread(table, 64, half_row(relation, u, 1), lo, hi);
+    spread_over(table, read_row(relation, u), set);
 }
 
 // The first key from i on whose target has another row than that of key i; n where there is none.
-fn row_run(relation: &[u8], rows: usize, keys: &[usize; 128], n: usize, i: usize) -> usize
+fn row_stretch(relation: &[u8], rows: usize, keys: &[usize; 128], n: usize, i: usize) -> usize
     requires { ⌜ (length (now relation) ≡ 16 * rows) × (length (now keys) ≡ 128) × (n ≤ 128) × (i < n) ⌝ }
-    ensures { λ r. ⌜ Run (now (relation .entry)) (now (keys .entry)) n i r ⌝ }
+    ensures { λ r. ⌜ Stretch (SameTarget (now (relation .entry)) (now (keys .entry)) i) n i r ⌝ }
 {
     let mut b = i + 1;
     while b < n {
@@ -53,18 +67,23 @@ fn row_run(relation: &[u8], rows: usize, keys: &[usize; 128], n: usize, i: usize
     b
 }
 
-// For each chart vertex the numbers of the keys whose target is related to it. Neighbours often have the same row, and are then
-// put in together.
+// For each chart vertex the numbers of the keys whose target is related to it. Neighbours often have the same row, and
+// are then put in together.
 pub(crate) fn spread_rows(relation: &[u8], rows: usize, keys: &[usize; 128], n: usize) -> [u64; 256]
     requires { ⌜ (length (now relation) ≡ 16 * rows) × (length (now keys) ≡ 128) × (n ≤ 128) ⌝ }
-    ensures { λ r. ⌜ RowsSpread (now (relation .entry)) (now (keys .entry)) n r ⌝ }
+    ensures { λ r. ⌜ Table 128 (KeyInto (now (relation .entry)) (now (keys .entry)) n) r ⌝ }
 {
     let mut table = [0u64; 256];
     let mut i: usize = 0;
     while i < n {
-        let b = row_run(relation, rows, keys, n, i);
-        let set = between(i, b);
-        spread_row(relation, rows, keys[i] % 256, set[0], set[1], &mut table);
+        let b = row_stretch(relation, rows, keys, n, i);
+        spread_row(
+            relation,
+            rows,
+            keys[i] % 256,
+            Set::between(i, b),
+            &mut table,
+        );
         i = b;
     }
     table
@@ -86,7 +105,7 @@ fn identity() -> [usize; 128]
 // For each chart vertex the rows that are related to it.
 pub(crate) fn columns(relation: &[u8], rows: usize) -> [u64; 256]
     requires { ⌜ (length (now relation) ≡ 16 * rows) × (rows ≤ 128) ⌝ }
-    ensures { λ r. ⌜ Columns (now (relation .entry)) r ⌝ }
+    ensures { λ r. ⌜ Table 128 (converse (Related (now (relation .entry)))) r ⌝ }
 {
     let own = identity();
     spread_rows(relation, rows, &own, rows)
@@ -101,16 +120,16 @@ pub(crate) fn acting(keys: &[usize; 128], m: usize) -> [u64; 256]
     let mut k: usize = 0;
     while k < m {
         let a = keys[k] / 256;
-        words[a] = with(words[a], k);
+        words[a] = with_bit(words[a], k);
         k += 1;
     }
     words
 }
 
 // The first word from u on that is not the word of u; `rows` where there is none.
-fn word_run(words: &[u64; 128], rows: usize, u: usize) -> usize
+fn word_stretch(words: &[u64; 128], rows: usize, u: usize) -> usize
     requires { ⌜ (length (now words) ≡ 128) × (rows ≤ 128) × (u < rows) ⌝ }
-    ensures { λ r. ⌜ WordRun (now (words .entry)) rows u r ⌝ }
+    ensures { λ r. ⌜ Stretch (SameWord (now (words .entry)) u) rows u r ⌝ }
 {
     let mut b = u + 1;
     while b < rows {
@@ -125,14 +144,13 @@ fn word_run(words: &[u64; 128], rows: usize, u: usize) -> usize
 // For each step the rows that have it.
 pub(crate) fn users(words: &[u64; 128], rows: usize) -> [u64; 128]
     requires { ⌜ (length (now words) ≡ 128) × (rows ≤ 128) × ((u k : ℕ) → On (getD (now words) u 0) k → k < 64) ⌝ }
-    ensures { λ r. ⌜ Users (now (words .entry)) rows r ⌝ }
+    ensures { λ r. ⌜ Table 64 (UsedBy (now (words .entry)) rows) r ⌝ }
 {
     let mut table = [0u64; 128];
     let mut u: usize = 0;
     while u < rows {
-        let b = word_run(words, rows, u);
-        let set = between(u, b);
-        spread(&mut table, 0, words[u], set[0], set[1]);
+        let b = word_stretch(words, rows, u);
+        spread(&mut table, 0, words[u], Set::between(u, b));
         u = b;
     }
     table
@@ -146,7 +164,7 @@ pub(crate) fn used(words: &[u64; 128], rows: usize) -> u64
     let mut all: u64 = 0;
     let mut u: usize = 0;
     while u < rows {
-        all = either(all, words[u]);
+        all = bit_or(all, words[u]);
         u += 1;
     }
     all

@@ -1,7 +1,8 @@
 -- Bits counted one by one, and by the machine.
 use mathlib.Core.Path.{_≡_, refl, sym, _∙_, ap, subst}
 use Prim.Native.Nat.{ℕ, zero, suc, _+_, _*_, _/_, _%_, _^_, _≤_, _<_}
-use native.Mathlib.Nat.{mod-lt, mod-eq-of-lt}
+use mathlib.Core.Logic.{_⊎_, inl, inr}
+use native.Mathlib.Nat.{mod-lt, mod-eq-of-lt, eq-or-lt-of-le}
 use native.Mathlib.Omega.{arith}
 use lib.Count.{ones, ones-cat, ones-le}
 use lib.Pow.{pow-pos, pow-lt, mod-pow-add}
@@ -48,3 +49,36 @@ bit-uncounted x k off = let e = none (x / 2 ^ k % 2) (mod-lt (x / 2 ^ k) (omega 
     none zero l n = refl
     none (suc zero) l n = absurd (n refl)
     none (suc (suc d)) l n = absurd (omega arith)
+
+-- no more bits than places; and where x has no bit that y lacks, no more than y has, and fewer where it lacks one
+pub bits-few : (x k : ℕ) → bitsBelow x k ≤ k
+unfolding bitsBelow
+bits-few x zero = omega arith
+bits-few x (suc k) = let h = bits-few x k in let d : x / 2 ^ k % 2 < 2 = mod-lt (x / 2 ^ k) (omega arith) in omega arith
+
+below-suc : (i k : ℕ) → i < suc k → (i ≡ k) ⊎ (i < k)
+below-suc i k h = eq-or-lt-of-le (omega (arith, h))
+
+digit-le : (a b : ℕ) → a < 2 → (a ≡ 1 → b ≡ 1) → a ≤ b
+digit-le zero b l f = omega arith
+digit-le (suc zero) b l f = let e = f refl in omega arith
+digit-le (suc (suc a)) b l f = absurd (omega arith)
+
+digit-lt : (a b : ℕ) → a < 2 → b ≡ 1 → ¬ (a ≡ 1) → a < b
+digit-lt zero b l e n = omega arith
+digit-lt (suc zero) b l e n = absurd (n refl)
+digit-lt (suc (suc a)) b l e n = absurd (omega arith)
+
+pub bits-lt : (x y k : ℕ) → ((j : ℕ) → j < k → On x j → On y j) → (bitsBelow x k ≤ bitsBelow y k) × ((i : ℕ) → i < k → On y i → ¬ On x i → bitsBelow x k < bitsBelow y k)
+unfolding bitsBelow
+bits-lt x y zero f = (omega arith, λ i h. absurd (omega (arith, h)))
+bits-lt x y (suc k) f =
+    let H = bits-lt x y k (λ j h. f j (omega (arith, h))) in
+    let d = digit-le (x / 2 ^ k % 2) (y / 2 ^ k % 2) (mod-lt (x / 2 ^ k) (omega arith)) (f k (omega arith)) in
+    let a = H .0 in
+    (omega arith, λ i h on off. elim (below-suc i k h) [ inl e ↦ top i e a on off | inr l ↦ let b = H .1 i l on off in omega arith ])
+  where
+    top : (i : ℕ) → i ≡ k → bitsBelow x k ≤ bitsBelow y k → On y i → ¬ On x i → bitsBelow x k + x / 2 ^ k % 2 < bitsBelow y k + y / 2 ^ k % 2
+    top i e a on off =
+        let d = digit-lt (x / 2 ^ k % 2) (y / 2 ^ k % 2) (mod-lt (x / 2 ^ k) (omega arith)) (subst (On y) e on) (λ o. off (subst (On x) (sym e) o)) in
+        omega arith

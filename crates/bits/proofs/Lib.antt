@@ -2,7 +2,7 @@
 pub mod Powers
 pub mod Words
 pub mod Counts
-pub mod Sets
-pub mod Unions
 pub mod Packed
-pub mod Tables
+pub mod Members
+pub mod Gains
+pub mod Determined

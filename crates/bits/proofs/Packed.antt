@@ -9,7 +9,7 @@ use native.Mathlib.Omega.{arith}
 use lib.ListN.{getD}
 use lib.Pow.{pow-add, pow-pos}
 use Rattle.bits.specs.Words.{On}
-use Rattle.bits.specs.Packed.{Packed}
+use Rattle.bits.specs.Packed.{fourAt, Packed}
 use Rattle.bits.proofs.Words.{shifted}
 
 -- the bits of x, and those of y above them
@@ -52,3 +52,15 @@ packed-twice {s} {at} {n} {x} {y} b X Y = record { below = b; exactly = λ j h. 
         let S = subst (λ (k : ℕ). On (x + 2 ^ (8 * n) * y) k ↔ On y (j - 8 * n)) e (stacked-high x y (8 * n) (j - 8 * n) (X .below)) in
         let P = Y .exactly (j - 8 * n) (omega arith) in
         ((λ on. rw (f, g) at (P .0 (S .0 on))), (λ on. S .1 (P .1 (rw (f, g) on))))
+
+-- four bytes, as the number that they make
+pub packed-four : (s : List ℕ) (at r : ℕ) → ((k : ℕ) → k < 4 → getD s (at + k) 0 < 256) → r ≡ fourAt s at → Packed s at 4 r
+packed-four s at r B e =
+    let z : at + 0 ≡ at = omega arith in
+    let a : getD s at 0 < 256 = rw z at (B 0 (omega arith)) in let b = B 1 (omega arith) in let c = B 2 (omega arith) in let d = B 3 (omega arith) in
+    let f : at + 2 + 1 ≡ at + 3 = omega arith in
+    let low = packed-twice {s = s} {at = at} {n = 1} {x = getD s at 0} {y = getD s (at + 1) 0} (omega arith) (packed-one refl a) (packed-one refl b) in
+    let high = packed-twice {s = s} {at = at + 2} {n = 1} {x = getD s (at + 2) 0} {y = getD s (at + 3) 0} (omega arith) (packed-one refl c) (packed-one (ap (λ (i : ℕ). getD s i 0) (sym f)) d) in
+    let w = packed-twice {n = 2} (omega arith) low high in
+    let g : getD s at 0 + 256 * getD s (at + 1) 0 + 65536 * (getD s (at + 2) 0 + 256 * getD s (at + 3) 0) ≡ r = omega arith in
+    subst (Packed s at 4) g w

@@ -12,7 +12,8 @@ use lib.Pow.{pow-pos, pow-lt, pow-add, pow-mono, shr-shr}
 use lib.Bits.{bitAnd, bitOr, bitXor, differ, and-step, or-step, xor-step, and-shr, or-shr, xor-shr}
 use lib.Count.{trailingZeros, under, trailing-le, leadingZeros, leading-top}
 use borrow.Author.Tests.{eq-eqb, eqb-true}
-use Rattle.bits.specs.Words.{On, LowestOn, HighestOn, With, Without, LowestFrom}
+use Rattle.bits.specs.Words.{On, LowestOn, HighestOn, With, Without}
+use Rattle.bits.specs.First.{First}
 
 -- the digit of x at k
 abbrev pub digit : ℕ → ℕ → ℕ
@@ -124,24 +125,15 @@ with-law x k = record { exactly = exactly; more = λ off. subset-lt x (bitOr x (
     exactly : (j : ℕ) → On (bitOr x (2 ^ k)) j ↔ (On x j ⊎ (j ≡ k))
     exactly j = ((λ on. there j (either-on x (2 ^ k) j .0 on)), (λ h. either-on x (2 ^ k) j .1 (back j h)))
 
-pub without-law : (x k : ℕ) → Without x k (bitXor x (bitAnd x (2 ^ k)))
-without-law x k = record { exactly = exactly; less = λ on. subset-lt (bitXor x (bitAnd x (2 ^ k))) x k (λ j h. but-on x (2 ^ k) j .0 h .0) on (λ h. but-on x (2 ^ k) k .0 h .1 (on-pow k)) }
-  where
-    exactly : (j : ℕ) → On (bitXor x (bitAnd x (2 ^ k))) j ↔ (On x j × (j ≢ k))
-    exactly j = (
-      (λ h. (but-on x (2 ^ k) j .0 h .0, λ e. but-on x (2 ^ k) j .0 h .1 (subst (λ (i : ℕ). On (2 ^ k) i) (sym e) (on-pow k)))),
-      (λ h. but-on x (2 ^ k) j .1 (h .0, λ on. h .1 (pow-on k j on))),
-    )
-
 -- 1 moved up by k places, within a word
 pub bit-worth : (k : ℕ) → k < 64 → (1 * 2 ^ k) % 18446744073709551616 ≡ 2 ^ k
 bit-worth k h = let p = pow-lt {i = k} {j = 64} h in let e : 1 * 2 ^ k ≡ 2 ^ k = omega arith in ap (λ (y : ℕ). y % 18446744073709551616) e ∙ mod-eq-of-lt p
 
 -- t is the first bit of x that is set, of those below d, or d
-abbrev First : ℕ → ℕ → ℕ → Type 0
-First d x t = (t < d → On x t) × ((k : ℕ) → k < t → ¬ On x k)
+abbrev Trailing : ℕ → ℕ → ℕ → Type 0
+Trailing d x t = (t < d → On x t) × ((k : ℕ) → k < t → ¬ On x k)
 
-first-above : (d x t n : ℕ) → First d (x / 2) t → x % 2 ≡ n → First (suc d) x (under n t)
+first-above : (d x t n : ℕ) → Trailing d (x / 2) t → x % 2 ≡ n → Trailing (suc d) x (under n t)
 first-above d x t zero f e = ((λ h. digit-suc x t ∙ f .0 (omega (arith, h))), low)
   where
     low : (k : ℕ) → k < suc t → ¬ On x k
@@ -150,7 +142,7 @@ first-above d x t zero f e = ((λ h. digit-suc x t ∙ f .0 (omega (arith, h))),
 first-above d x t (suc zero) f e = ((λ h. digit-zero x ∙ e), (λ k h. omega (arith, h)))
 first-above d x t (suc (suc n)) f e = ((λ h. omega (arith, e)), (λ k h. omega (arith, e)))
 
-trailing : (d x : ℕ) → First d x (trailingZeros d x)
+trailing : (d x : ℕ) → Trailing d x (trailingZeros d x)
 unfolding trailingZeros
 trailing zero x = ((λ h. omega (arith, h)), (λ k h. omega (arith, h)))
 trailing (suc d) x = first-above d x (trailingZeros d (x / 2)) (x % 2) (trailing d (x / 2)) refl
@@ -253,26 +245,26 @@ pub shifted : (x s k : ℕ) → On (x / 2 ^ s) k ↔ On x (s + k)
 shifted x s k = let e = ap (λ (y : ℕ). y % 2) (shr-shr x s k) in ((λ h. sym e ∙ h), (λ h. e ∙ h))
 
 -- the lowest bit from k on, by the word moved down
-pub lowest-from-none : (x k y : ℕ) → k < 64 → ((j : ℕ) → On y j ↔ On x (k + j)) → y ≡ 0 → LowestFrom x k 64
+pub lowest-from-none : (x k y : ℕ) → k < 64 → ((j : ℕ) → On y j ↔ On x (k + j)) → y ≡ 0 → First (On x) k 64 64
 lowest-from-none x k y h D e = record {
   from = omega (arith, h);
   within = omega arith;
-  on = λ l. absurd (omega (arith, l));
-  below = λ j i l on. let q : k + (j - k) ≡ j = omega (arith, i) in absurd (not-under (bit-below 0 y (j - k) (omega (arith, e)) (D (j - k) .1 (rw q on))));
+  holds = λ l. absurd (omega (arith, l));
+  before = λ j i l on. let q : k + (j - k) ≡ j = omega (arith, i) in absurd (not-under (bit-below 0 y (j - k) (omega (arith, e)) (D (j - k) .1 (rw q on))));
 }
   where
     not-under : {n : ℕ} → n < 0 → ⊥
     not-under l = omega (arith, l)
 
-pub lowest-from-some : (x k y r : ℕ) → x < 2 ^ 64 → ((j : ℕ) → On y j ↔ On x (k + j)) → LowestOn y r → LowestFrom x k (k + r)
+pub lowest-from-some : (x k y r : ℕ) → x < 2 ^ 64 → ((j : ℕ) → On y j ↔ On x (k + j)) → LowestOn y r → First (On x) k 64 (k + r)
 lowest-from-some x k y r h D L =
     let here = D r .0 (L .on) in
     let low = bit-below 64 x (k + r) h here in
     record {
       from = omega arith;
       within = omega (arith, low);
-      on = λ l. here;
-      below = λ j i l on. let q : k + (j - k) ≡ j = omega (arith, i) in L .below (j - k) (omega (arith, i, l)) (D (j - k) .1 (rw q on));
+      holds = λ l. here;
+      before = λ j i l on. let q : k + (j - k) ≡ j = omega (arith, i) in L .below (j - k) (omega (arith, i, l)) (D (j - k) .1 (rw q on));
     }
 
 -- ONE BIT MORE where p is 1, and nothing where p is 0

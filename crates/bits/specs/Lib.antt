@@ -1,7 +1,9 @@
--- The definitions.
+-- The definitions. The meaning: Words, First, Packed, Sets, Tables, and Bytes in Bits. The tests that run: hasBit in
+-- Bits, bitsBelow in Counts.
 pub mod Bits
 pub mod Words
+pub mod First
 pub mod Counts
-pub mod Unions
 pub mod Packed
+pub mod Sets
 pub mod Tables

@@ -1,504 +1,165 @@
-// Runs the check on files of document 01's last section and on one at least for every refusal of the check. Each
-// case writes its name, the answer and whether it is the expected one; the last line counts.
-mod files;
-mod judge;
-mod largest;
+// Runs the cases of a table that it reads on standard input; the file `stdin` beside this folder is one, and says at
+// its head how it is written. Each call of a case writes the case's name, the call, the answer and whether it is the
+// expected one; the last line counts.
+mod answers;
+mod lines;
+mod records;
+mod words;
 
-use files::CHART;
-use files::LABELS;
-use files::NODES;
-use files::put;
-use files::relate;
-use files::relation;
-use files::write_file;
-use judge::Tally;
-use judge::accepted;
-use judge::judge;
-use judge::refused;
+ghost use Prim.Native.Nat.{_≤_};
+ghost use mathlib.Core.Path.{_≡_};
+ghost use lib.ListN.{length};
+ghost use Rattle.io.specs.Counts.{Counts};
+use answers::append;
+use answers::write_bytes;
+use answers::write_verdict;
+use libc::STDIN_FILENO;
+use libc::STDOUT_FILENO;
+use lines::CASE;
+use lines::CHECK;
+use lines::LEAVING;
+use lines::prepare;
+use lines::word_of;
+use records::CHART;
+use records::FILE;
+use records::body;
+use records::join;
+use records::least;
 use report::Numbers;
+use std::num::wrapping_add_u64;
+use words::after;
+use words::find;
+use words::number;
+use words::part;
+use words::same;
 
-// G and a byte, of which one byte is changed and the first ones are taken.
-fn damaged(
-    tally: Tally,
-    name: &[u8],
-    at: usize,
-    value: u8,
-    length: isize,
-    expected: Numbers,
-) -> Tally {
-    let mut file = [0u8; 107];
-    write_file(&mut file, &NODES, &CHART, &LABELS, &relation());
-    put(&mut file, at, value);
-    let end = io::count(length, &file);
-    judge(tally, name, &file[..end], expected)
+// The part that lines write to; where the case's name stands in the table; how many calls were run, and how many
+// answered as expected.
+struct State {
+    part: usize,
+    name: usize,
+    name_end: usize,
+    run: u64,
+    passed: u64,
 }
 
-// The first bytes of G, and one more.
-fn cut(tally: Tally, name: &[u8], length: isize, expected: Numbers) -> Tally {
-    damaged(tally, name, 106, 0, length, expected)
+fn counted(state: State, as_expected: bool) -> State {
+    let mut passed = state.passed;
+    if as_expected {
+        passed = wrapping_add_u64(passed, 1);
+    }
+    State {
+        part: state.part,
+        name: state.name,
+        name_end: state.name_end,
+        run: wrapping_add_u64(state.run, 1),
+        passed,
+    }
 }
 
-// A file of four records.
-fn records(
-    tally: Tally,
-    name: &[u8],
-    nodes: &[u8],
-    chart: &[u8],
-    labels: &[u8],
-    relation: &[u8],
-    expected: Numbers,
-) -> Tally {
-    let mut file = [0u8; 43536];
-    let length = write_file(&mut file, nodes, chart, labels, relation);
-    judge(tally, name, &file[..length], expected)
+fn say(text: &[u8]) {
+    io::write_all(STDOUT_FILENO, text);
 }
 
-// G with another record.
-fn with_nodes(tally: Tally, name: &[u8], nodes: &[u8], expected: Numbers) -> Tally {
-    records(tally, name, nodes, &CHART, &LABELS, &relation(), expected)
+// Writes one call with its answer; says whether that is what the line expects.
+fn judge(name: &[u8], line: &[u8], answer: &[u8]) -> bool {
+    let equals = find(line, 0, b'=');
+    let expected = part(line, equals + 1, line.len());
+    let as_expected = same(answer, expected);
+    say(name);
+    say(b": ");
+    say(part(line, 0, least(equals + 1, line.len())));
+    say(answer);
+    if as_expected {
+        say(b", as expected\n");
+    } else {
+        say(b", NOT");
+        say(expected);
+        say(b"\n");
+    }
+    as_expected
 }
 
-fn with_chart(tally: Tally, name: &[u8], chart: &[u8], expected: Numbers) -> Tally {
-    records(tally, name, &NODES, chart, &LABELS, &relation(), expected)
+fn verdict_on(file: &[u8]) -> Numbers {
+    report::verdict_numbers(verdict::check(file))
 }
 
-fn with_labels(tally: Tally, name: &[u8], labels: &[u8], expected: Numbers) -> Tally {
-    records(tally, name, &NODES, &CHART, labels, &relation(), expected)
+// The answer to a call, as text.
+fn answer(bytes: &[u8], word: usize, line: &[u8], text: &mut [u8]) -> usize
+    ensures { λ r. ⌜ Counts r (now (text .exit)) ⌝ }
+{
+    if word == CHECK {
+        return write_verdict(text, verdict_on(body(bytes, FILE)));
+    }
+    if word == LEAVING {
+        let vertex = number(after(line, 1));
+        return write_bytes(text, chart::leaving(body(bytes, CHART), vertex));
+    }
+    append(text, 0, b" not understood")
 }
 
-fn with_relation(tally: Tally, name: &[u8], relation: &[u8], expected: Numbers) -> Tally {
-    records(tally, name, &NODES, &CHART, &LABELS, relation, expected)
+fn call(table: &[u8], state: State, bytes: &mut [u8], word: usize, line: &[u8]) -> State {
+    join(bytes, state.part);
+    let mut text = io::buffer();
+    let length = answer(bytes, word, line, &mut text);
+    let name = after(part(table, state.name, state.name_end), 1);
+    counted(state, judge(name, line, &text[..length]))
 }
 
-// G with another byte in its relation.
-fn related(tally: Tally, name: &[u8], at: usize, value: u8, expected: Numbers) -> Tally {
-    let mut relation = relation();
-    put(&mut relation, at, value);
-    with_relation(tally, name, &relation, expected)
+// What a line that calls nothing makes of the state.
+fn moved(state: State, word: usize, from: usize, to: usize) -> State {
+    let mut next = state;
+    if word <= FILE {
+        next.part = word;
+    }
+    if word == CASE {
+        next.name = from;
+        next.name_end = to;
+    }
+    next
 }
 
-fn incomplete(tally: Tally) -> Tally {
-    let tally = cut(tally, b"empty", 0, refused(2, 1, 0, 0));
-    let tally = cut(
-        tally,
-        b"header of record 2 cut short",
-        19,
-        refused(2, 2, 0, 0),
-    );
-    let tally = cut(
-        tally,
-        b"body of record 3 cut short",
-        37,
-        refused(2, 3, 0, 0),
-    );
-    cut(tally, b"G without its last byte", 105, refused(2, 4, 0, 0))
+fn obey(table: &[u8], from: usize, to: usize, bytes: &mut [u8], state: State) -> State {
+    let line = part(table, from, to);
+    let word = word_of(line);
+    if word >= CHECK {
+        return call(table, state, bytes, word, line);
+    }
+    prepare(bytes, state.part, word, line);
+    moved(state, word, from, to)
 }
 
-fn kinds(tally: Tally) -> Tally {
-    let tally = damaged(
-        tally,
-        b"kind 3 in record 2",
-        18,
-        3,
-        106,
-        refused(3, 2, 3, 0),
-    );
-    damaged(
-        tally,
-        b"kind 260 in record 4, which has no body",
-        41,
-        1,
-        42,
-        refused(3, 4, 260, 0),
-    )
+fn run(table: &[u8], bytes: &mut [u8]) -> State {
+    let mut state = State {
+        part: 0,
+        name: 0,
+        name_end: 0,
+        run: 0,
+        passed: 0,
+    };
+    let mut at: usize = 0;
+    while at < table.len() {
+        let end = find(table, at, b'\n');
+        state = obey(table, at, end, bytes, state);
+        at = end + 1;
+    }
+    state
 }
 
-fn bytes_after(tally: Tally) -> Tally {
-    let tally = cut(tally, b"G and a byte", 107, refused(4, 106, 0, 0));
-    damaged(
-        tally,
-        b"G and a byte, node 0 malformed",
-        4,
-        9,
-        107,
-        refused(4, 106, 0, 0),
-    )
-}
-
-fn node_lengths(tally: Tally) -> Tally {
-    let tally = with_nodes(tally, b"no node", &[], refused(10, 0, 0, 0));
-    let tally = with_nodes(tally, b"10 bytes of nodes", &[0; 10], refused(10, 10, 0, 0));
-    with_nodes(
-        tally,
-        b"508 + 4 bytes of nodes",
-        &[0; 512],
-        refused(10, 512, 0, 0),
-    )
-}
-
-fn malformed_nodes(tally: Tally) -> Tally {
-    let tally = with_nodes(
-        tally,
-        b"node of kind 5",
-        &[5, 1, 0, 0],
-        refused(11, 0, 0, 0),
-    );
-    let tally = with_nodes(
-        tally,
-        b"leaf of action 0",
-        &[1, 0, 0, 0],
-        refused(11, 0, 0, 0),
-    );
-    let tally = with_nodes(
-        tally,
-        b"deadlock with an action",
-        &[0, 1, 0, 0],
-        refused(11, 0, 0, 0),
-    );
-    let tally = with_nodes(
-        tally,
-        b"leaf with an operand",
-        &[0, 0, 0, 0, 1, 1, 0, 1],
-        refused(11, 1, 0, 0),
-    );
-    with_nodes(
-        tally,
-        b"operand not below its node",
-        &[1, 1, 0, 0, 2, 0, 0, 1],
-        refused(11, 1, 0, 0),
-    )
-}
-
-fn misused_nodes(tally: Tally) -> Tally {
-    let tally = with_nodes(
-        tally,
-        b"root 04 00 00 00",
-        &[1, 1, 0, 0, 1, 2, 0, 0, 4, 0, 0, 0],
-        refused(12, 0, 2, 0),
-    );
-    with_nodes(
-        tally,
-        b"node that none uses",
-        &[1, 1, 0, 0, 1, 2, 0, 0],
-        refused(12, 0, 0, 0),
-    )
-}
-
-fn chart_headers(tally: Tally) -> Tally {
-    let tally = with_chart(tally, b"chart of 3 bytes", &[2, 1, 0], refused(20, 0, 0, 0));
-    let tally = with_chart(tally, b"V 1", &[1, 1, 0, 0], refused(20, 0, 0, 0));
-    let tally = with_chart(tally, b"V 129", &[129, 1, 0, 0], refused(20, 0, 0, 0));
-    let tally = with_chart(tally, b"start 0", &[2, 0, 0, 0], refused(20, 0, 0, 0));
-    let tally = with_chart(tally, b"start V", &[2, 2, 0, 0], refused(20, 0, 0, 0));
-    with_chart(
-        tally,
-        b"T 1 and no transition",
-        &[2, 1, 1, 0],
-        refused(20, 0, 0, 0),
-    )
-}
-
-// As many transitions as the header says, and one more than may be.
-fn many_transitions(tally: Tally) -> Tally {
-    let mut chart = [0u8; 32776];
-    put(&mut chart, 0, 2);
-    put(&mut chart, 1, 1);
-    put(&mut chart, 2, 1);
-    put(&mut chart, 3, 32);
-    with_chart(tally, b"T 8,193", &chart, refused(20, 0, 0, 0))
-}
-
-fn malformed_transitions(tally: Tally) -> Tally {
-    let tally = with_chart(
-        tally,
-        b"transition of the end",
-        &[2, 1, 1, 0, 0, 1, 1, 0],
-        refused(21, 0, 0, 0),
-    );
-    let tally = with_chart(
-        tally,
-        b"transition of action 0",
-        &[2, 1, 1, 0, 1, 0, 1, 0],
-        refused(21, 0, 0, 0),
-    );
-    let tally = with_chart(
-        tally,
-        b"transition to V",
-        &[2, 1, 1, 0, 1, 1, 2, 0],
-        refused(21, 0, 0, 0),
-    );
-    with_chart(
-        tally,
-        b"transition with a last byte",
-        &[2, 1, 1, 0, 1, 1, 1, 1],
-        refused(21, 0, 0, 0),
-    )
-}
-
-fn unordered_transitions(tally: Tally) -> Tally {
-    let tally = with_chart(
-        tally,
-        b"transitions in falling order",
-        &[2, 1, 2, 0, 1, 2, 0, 0, 1, 1, 1, 0],
-        refused(21, 1, 0, 0),
-    );
-    with_chart(
-        tally,
-        b"transition twice",
-        &[2, 1, 2, 0, 1, 1, 1, 0, 1, 1, 1, 0],
-        refused(21, 1, 0, 0),
-    )
-}
-
-fn labels(tally: Tally) -> Tally {
-    let tally = with_labels(tally, b"labels 01", &[1], refused(30, 1, 0, 0));
-    let tally = with_labels(tally, b"labels 01 00 00", &[1, 0, 0], refused(30, 3, 0, 0));
-    let tally = with_labels(tally, b"labels 00 00", &[0, 0], refused(32, 1, 0, 0));
-    let tally = with_labels(tally, b"labels 01 02", &[1, 2], refused(33, 1, 2, 0));
-    with_labels(tally, b"labels 01 01", &[1, 1], refused(34, 1, 1, 0))
-}
-
-fn unreached(tally: Tally) -> Tally {
-    let tally = with_chart(
-        tally,
-        b"V 3, vertex 2 unreached",
-        &[3, 1, 2, 0, 1, 1, 1, 0, 1, 2, 0, 0],
-        refused(31, 2, 0, 0),
-    );
-    with_chart(
-        tally,
-        b"V 128, vertex 2 unreached",
-        &[128, 1, 2, 0, 1, 1, 1, 0, 1, 2, 0, 0],
-        refused(31, 2, 0, 0),
-    )
-}
-
-// Vertex 1 enters, vertex 2 goes back or leaves.
-fn way_out_inside(tally: Tally) -> Tally {
-    records(
-        tally,
-        b"way out inside a loop",
-        &NODES,
-        &[3, 1, 3, 0, 1, 1, 2, 0, 2, 1, 1, 0, 2, 2, 0, 0],
-        &[1, 0, 0],
-        &relation(),
-        refused(34, 1, 1, 0),
-    )
-}
-
-// (a . (a * b)) * c, with one loop inside the other.
-fn nested(tally: Tally, name: &[u8], labels: &[u8], expected: Numbers) -> Tally {
-    let mut relation = [0u8; 128];
-    relate(&mut relation, 0, 1);
-    relate(&mut relation, 4, 4);
-    relate(&mut relation, 7, 2);
-    records(
-        tally,
-        name,
-        b"\x01\x01\0\0\x01\x01\0\0\x01\x02\0\0\x04\0\x01\x02\x03\0\0\x03\x01\x03\0\0\x04\0\x04\x05",
-        &[3, 1, 4, 0, 1, 1, 2, 0, 1, 3, 0, 0, 2, 1, 2, 0, 2, 2, 1, 0],
-        labels,
-        &relation,
-        expected,
-    )
-}
-
-fn nested_loops(tally: Tally) -> Tally {
-    let tally = nested(
-        tally,
-        b"nested loops of levels 2 and 1",
-        &[2, 0, 1, 0],
-        accepted(3, 4, 2),
-    );
-    nested(
-        tally,
-        b"nested loops of equal level",
-        &[1, 0, 1, 0],
-        refused(35, 1, 1, 2),
-    )
-}
-
-// (a + b) * c: a body ends at its own vertex, so neither loop is inside the other.
-fn two_loops(tally: Tally) -> Tally {
-    let mut relation = [0u8; 96];
-    relate(&mut relation, 0, 1);
-    relate(&mut relation, 5, 2);
-    records(
-        tally,
-        b"two loops at one vertex",
-        &[1, 1, 0, 0, 1, 2, 0, 0, 2, 0, 0, 1, 1, 3, 0, 0, 4, 0, 2, 3],
-        &[2, 1, 3, 0, 1, 1, 1, 0, 1, 2, 1, 0, 1, 3, 0, 0],
-        &[1, 2, 0],
-        &relation,
-        accepted(2, 3, 2),
-    )
-}
-
-fn relation_lengths(tally: Tally) -> Tally {
-    let tally = with_relation(
-        tally,
-        b"relation of 3 rows",
-        &[0; 48],
-        refused(40, 48, 0, 0),
-    );
-    with_relation(
-        tally,
-        b"relation of 4 rows and a byte",
-        &[0; 65],
-        refused(40, 65, 0, 0),
-    )
-}
-
-fn columns(tally: Tally) -> Tally {
-    let tally = related(tally, b"row 1 04", 16, 4, refused(41, 1, 2, 0));
-    related(
-        tally,
-        b"row 0 with its last bit",
-        15,
-        128,
-        refused(41, 0, 127, 0),
-    )
-}
-
-fn pairs(tally: Tally) -> Tally {
-    let tally = related(tally, b"row 3 cleared", 48, 0, refused(42, 3, 1, 0));
-    let tally = related(tally, b"row 0 03", 0, 3, refused(43, 0, 1, 0));
-    let tally = related(tally, b"row 1 01", 16, 1, refused(43, 1, 0, 0));
-    let tally = related(tally, b"row 0 cleared", 0, 0, refused(44, 3, 1, 3));
-    related(
-        tally,
-        b"row 1 02, of a vertex that nothing reaches",
-        16,
-        2,
-        refused(45, 1, 1, 1),
-    )
-}
-
-fn more_than_the_expression(tally: Tally) -> Tally {
-    records(
-        tally,
-        b"chart with an action more",
-        &NODES,
-        &[2, 1, 3, 0, 1, 1, 1, 0, 1, 2, 0, 0, 1, 3, 0, 0],
-        &[1, 0, 0],
-        &relation(),
-        refused(45, 3, 1, 2),
-    )
-}
-
-// (a + a) * b: its chart has six transitions, with the sum's action listed once.
-fn equal_actions(tally: Tally) -> Tally {
-    let mut relation = [0u8; 96];
-    relate(&mut relation, 5, 2);
-    records(
-        tally,
-        b"a + a has one transition",
-        &[1, 1, 0, 0, 1, 1, 0, 0, 2, 0, 0, 1, 1, 2, 0, 0, 4, 0, 2, 3],
-        &CHART,
-        &LABELS,
-        &relation,
-        refused(44, 5, 1, 5),
-    )
-}
-
-// a . 0, and a chart of one transition to the vertex that deadlock is related to.
-fn deadlock(
-    tally: Tally,
-    name: &[u8],
-    vertices: u8,
-    to: u8,
-    column: u8,
-    expected: Numbers,
-) -> Tally {
-    let mut relation = [0u8; 64];
-    relate(&mut relation, 2, column);
-    relate(&mut relation, 3, 2);
-    records(
-        tally,
-        name,
-        &[1, 1, 0, 0, 0, 0, 0, 0, 3, 0, 0, 1],
-        &[vertices, 1, 1, 0, 1, 1, to, 0],
-        &[0],
-        &relation,
-        expected,
-    )
-}
-
-fn deadlocks(tally: Tally) -> Tally {
-    let tally = deadlock(
-        tally,
-        b"deadlock taken for the end",
-        2,
-        0,
-        1,
-        refused(43, 2, 0, 0),
-    );
-    deadlock(
-        tally,
-        b"deadlock as a vertex of its own",
-        3,
-        2,
-        4,
-        accepted(3, 1, 0),
-    )
-}
-
-// The longest file, and a byte more.
-fn longest(tally: Tally) -> Tally {
-    let mut file = [0u8; 43537];
-    let length = largest::write_largest(&mut file);
-    let tally = judge(
-        tally,
-        b"127 nodes, V 128, T 8,192",
-        &file[..length],
-        accepted(128, 8192, 158),
-    );
-    judge(tally, b"43,537 bytes", &file, refused(1, 0, 0, 0))
-}
-
-fn transfer(tally: Tally) -> Tally {
-    let tally = cut(tally, b"G", 106, accepted(2, 2, 1));
-    let tally = longest(tally);
-    let tally = incomplete(tally);
-    let tally = kinds(tally);
-    bytes_after(tally)
-}
-
-fn expressions(tally: Tally) -> Tally {
-    let tally = node_lengths(tally);
-    let tally = malformed_nodes(tally);
-    misused_nodes(tally)
-}
-
-fn charts(tally: Tally) -> Tally {
-    let tally = chart_headers(tally);
-    let tally = many_transitions(tally);
-    let tally = malformed_transitions(tally);
-    unordered_transitions(tally)
-}
-
-fn labellings(tally: Tally) -> Tally {
-    let tally = labels(tally);
-    let tally = unreached(tally);
-    let tally = way_out_inside(tally);
-    let tally = nested_loops(tally);
-    two_loops(tally)
-}
-
-fn relations(tally: Tally) -> Tally {
-    let tally = relation_lengths(tally);
-    let tally = columns(tally);
-    let tally = pairs(tally);
-    let tally = more_than_the_expression(tally);
-    let tally = equal_actions(tally);
-    deadlocks(tally)
+// Room for ten parts.
+fn space() -> [u8; 655360]
+    ensures { λ r. ⌜ 655360 ≡ length r ⌝ }
+{
+    [0; 655360]
 }
 
 fn main() {
-    let tally = transfer(Tally { run: 0, passed: 0 });
-    let tally = expressions(tally);
-    let tally = charts(tally);
-    let tally = labellings(tally);
-    let tally = relations(tally);
-    judge::write_tally(tally);
+    let mut table = io::large_buffer();
+    let length = io::read_full(STDIN_FILENO, &mut table);
+    let mut bytes = space();
+    let state = run(&table[..length], &mut bytes);
+    io::print_decimal(STDOUT_FILENO, state.passed);
+    say(b" of ");
+    io::print_decimal(STDOUT_FILENO, state.run);
+    say(b" calls as expected\n");
 }

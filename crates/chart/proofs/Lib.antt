@@ -1,8 +1,10 @@
 -- The laws.
-pub mod Words
+pub mod Codes
 pub mod Checks
+pub mod Refusals
 pub mod Order
 pub mod Parts
 pub mod Searches
-pub mod Marking
+pub mod Kept
 pub mod Relations
+pub mod Standing

@@ -1,17 +1,24 @@
 -- The transitions that leave a vertex are one part of the body's bytes.
-use mathlib.Core.Path.{_≡_, refl, ap, _∙_}
+use mathlib.Core.Path.{_≡_, refl, sym, ap, _∙_}
 use mathlib.Core.List.{List, [], _++_, append-assoc, append-nil}
 use Prim.Native.Nat.{ℕ, zero, suc, _+_, _-_, _*_, _≤_, _<_}
 use native.Mathlib.Nat.{add-zero, zero-add, add-suc, suc-add}
 use native.Mathlib.Omega.{arith}
 use lib.ListN.{take, drop}
 use lib.Seq.{take-add, drop-drop}
-use borrow.Author.Tests.{eq-eqb, ne-eqb}
+use lib.Dec.{leb}
+use borrow.Author.Tests.{eq-eqb, ne-eqb, leb-true, leb-false}
+use Rattle.theory.specs.Tests.{lowest}
+use Rattle.theory.proofs.Tests.{lowest-stops}
+use Rattle.report.specs.declared.Stage.{Stage}
 use Rattle.report.specs.declared.Stage.the-variants.{Passed, Refused}
+use Rattle.bits.specs.Bits.{Bytes}
 use Rattle.chart.specs.Bodies.{verticesOf, countOf, fromOf, WellFormed}
+use Rattle.bits.specs.First.{Split}
 use Rattle.chart.specs.Checks.{checkOf}
-use Rattle.chart.specs.Leaving.{leavingAt, leavingOf, Split}
-use Rattle.chart.proofs.Order.{low-high, at-low, at-mid, at-high}
+use Rattle.chart.specs.Leaving.{leavingAt, leavingOf, FromBelow}
+use Rattle.chart.proofs.Checks.{well-formed}
+use Rattle.chart.proofs.Order.{first-above, low-high, at-low, at-mid, at-high}
 
 -- transitions of other vertices give nothing
 skip : (b : List ℕ) (v i d r : ℕ) → ((k : ℕ) → i ≤ k → k < i + d → fromOf b k ≡ v → ⊥) → leavingAt b v i (d + r) ≡ leavingAt b v (i + d) r
@@ -37,7 +44,7 @@ none-leave b v i n h =
     let e : n ≡ n + 0 = omega arith in
     ap (leavingAt b v i) e ∙ skip b v i n 0 h ∙ at-end b v (i + n)
 
-module _ (b : List ℕ) (n v lo hi : ℕ) (L : Split b n v lo) (H : Split b n (v + 1) hi) where
+module _ (b : List ℕ) (n v lo hi : ℕ) (L : Split (FromBelow b v) n lo) (H : Split (FromBelow b (v + 1)) n hi) where
   pub leaving-part : take (4 * hi + 4 - (4 * lo + 4)) (drop (4 * lo + 4) b) ≡ leavingAt b v 0 n
   leaving-part =
       let lh = low-high L H in
@@ -62,3 +69,23 @@ leaving-refused b v e = rw e
 -- no transition leaves a number of V or above
 pub leaving-high : (b : List ℕ) (v : ℕ) → WellFormed b → verticesOf b ≤ v → leavingAt b v 0 (countOf b) ≡ []
 leaving-high b v W h = none-leave b v 0 (countOf b) (λ k l m e. omega (arith, W .each k (omega arith) .from-high))
+
+-- THE ANSWER IS A PART OF THE BODY, whatever the body and the vertex
+pub leaving-is-part : (b : List ℕ) → Bytes b → (v : ℕ) → (a n : ℕ) × (leavingOf b v ≡ take n (drop a b))
+leaving-is-part b B v = go (checkOf b) refl
+  where
+    -- the first transition whose from is not below u
+    from : ℕ → ℕ
+    from u = lowest (λ i. leb u (fromOf b i)) 0 (countOf b)
+
+    parts : WellFormed b → (u : ℕ) → Split (FromBelow b u) (countOf b) (from u)
+    parts W u =
+        let s = lowest-stops (λ i. leb u (fromOf b i)) 0 (countOf b) in
+        first-above b B W (countOf b) u (from u) refl (omega (arith, s .within)) (λ k h. leb-false _ _ (s .below k (omega arith) h)) (λ h. leb-true _ _ (s .passes (omega arith)))
+
+    go : (s : Stage) → checkOf b ≡ s → (a n : ℕ) × (leavingOf b v ≡ take n (drop a b))
+    go (Refused p) e = (0, 0, leaving-refused b v e)
+    go Passed e =
+        let W = well-formed b e in
+        let part = leaving-part b (countOf b) v (from v) (from (v + 1)) (parts W v) (parts W (v + 1)) in
+        (4 * from v + 4, 4 * from (v + 1) + 4 - (4 * from v + 4), leaving-passed b v e ∙ sym part)

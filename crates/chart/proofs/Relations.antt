@@ -10,13 +10,12 @@ use native.Mathlib.Omega.{arith}
 use lib.ListN.{length, getD}
 use borrow.Author.Tests.{eq-eqb, lt-ltb, le-ltb}
 use Rattle.theory.specs.Ascending.{Ascending}
-use Rattle.theory.specs.Charts.{Formed, Listed, Any, Branch}
+use Rattle.theory.specs.Charts.{Formed, Listed, Any}
 use Rattle.theory.specs.Transitions.{Transition, precedes}
 use Rattle.theory.proofs.Search.{look-below}
 use Rattle.bits.specs.Bits.{Bytes}
 use Rattle.chart.specs.Bodies.{verticesOf, countOf, fromOf, actionOf, toOf, keyAt, WellFormed}
-use Rattle.chart.specs.Reached.{Kept}
-use Rattle.chart.specs.Steps.{transitionAt, transitionsFrom, transitionsOf, ActsOf, StepsOf, StandingOf}
+use Rattle.chart.specs.Steps.{transitionAt, transitionsFrom, transitionsOf, ActsOf, StepsOf, StandingOf, Kept}
 
 -- the list of transitions
 from-length : (b : List ℕ) (i n : ℕ) → length (transitionsFrom b i n) ≡ n
@@ -71,8 +70,8 @@ index-member b i h = from-member b 0 (countOf b) i (omega arith) (omega arith)
 -- the steps of the body's chart are its transitions
 pub acts-member : (b : List ℕ) (u a w : ℕ) → ActsOf b u a w ↔ List·Memᴰ (u, a, w) (transitionsOf b)
 acts-member b u a w = (
-  λ s. Memᴰ·cast (sym (triple (s .leaves) (s .acts) (s .enters))) (index-member b (s .at) (s .within)),
-  λ m. let (i, h, e) = member-index b (u, a, w) m in record { at = i; within = h; leaves = sym (ap (λ (t : Transition). t .0) e); acts = sym (ap (λ (t : Transition). t .1) e); enters = sym (ap (λ (t : Transition). t .2) e) },
+  λ s. Memᴰ·cast (sym (triple (s .leaves) (s .holds .is) (s .enters))) (index-member b (s .at) (s .within)),
+  λ m. let (i, h, e) = member-index b (u, a, w) m in record { at = i; within = h; leaves = sym (ap (λ (t : Transition). t .0) e); holds = record { is = sym (ap (λ (t : Transition). t .1) e) }; enters = sym (ap (λ (t : Transition). t .2) e) },
 )
   where
     triple : {x y z : ℕ} → x ≡ u → y ≡ a → z ≡ w → _≡_ {A = Transition} (x, y, z) (u, a, w)
@@ -115,8 +114,8 @@ steps-formed b labels W = record {
 steps? : (b labels : List ℕ) (u l w : ℕ) → Dec (StepsOf b labels u l w)
 steps? b labels u l w =
     elim (look-below bytes? (countOf b)) [
-      | inl (k, h, (p, q, r)) ↦ yes (record { at = k; within = h; leaves = p; label = q; enters = r })
-      | inr n ↦ no (λ s. n (s .at) (s .within) (s .leaves, s .label, s .enters))
+      | inl (k, h, (p, q, r)) ↦ yes (record { at = k; within = h; leaves = p; holds = record { is = q }; enters = r })
+      | inr n ↦ no (λ s. n (s .at) (s .within) (s .leaves, s .holds .is, s .enters))
     ]
   where
     bytes? : (k : ℕ) → Dec ((fromOf b k ≡ u) × (getD labels k 0 ≡ l) × (toOf b k ≡ w))
@@ -129,35 +128,17 @@ steps? b labels u l w =
 
 pub steps-listed : (b labels : List ℕ) → Bytes labels → Listed 256 (StepsOf b labels)
 steps-listed b labels B = record {
-  label-below = λ u l w s. omega (arith, B (s .at), s .label);
+  label-below = λ u l w s. omega (arith, B (s .at), s .holds .is);
   decide = steps? b labels;
 }
 
--- what stands is among the steps; all of them where every byte is 1
+-- what stands is among the steps
 pub standing-step : {b labels standing : List ℕ} {u l w : ℕ} → StandingOf b labels standing u l w → StepsOf b labels u l w
-standing-step s = record { at = s .at; within = s .within; leaves = s .leaves; label = s .label; enters = s .enters }
+standing-step s = record { at = s .at; within = s .within; leaves = s .leaves; enters = s .enters; holds = record { is = s .holds .label } }
 
-pub standing-all : (b labels standing : List ℕ) → ((i : ℕ) → i < countOf b → getD standing i 0 ≡ 1) → (u l w : ℕ) → StandingOf b labels standing u l w ↔ StepsOf b labels u l w
-standing-all b labels standing h u l w = (
-  standing-step,
-  λ s. record { at = s .at; within = s .within; leaves = s .leaves; label = s .label; enters = s .enters; stands = h (s .at) (s .within) },
-)
-
--- the kept transitions: all, the branches, those that stand
-pub kept-all : (b labels keep : List ℕ) → ((i : ℕ) → i < countOf b → getD keep i 0 ≡ 1) → (u w : ℕ) → Kept b keep u w ↔ Any (StepsOf b labels) u w
-kept-all b labels keep h u w = (
-  λ e. (getD labels (e .at) 0, record { at = e .at; within = e .within; leaves = e .leaves; label = refl; enters = e .enters }),
-  λ (l, s). record { at = s .at; within = s .within; leaves = s .leaves; enters = s .enters; kept = h (s .at) (s .within) },
-)
-
-pub kept-branch : (b labels keep : List ℕ) → ((i : ℕ) → i < countOf b → (getD keep i 0 ≡ 1) ↔ (getD labels i 0 ≡ 0)) → (u w : ℕ) → Kept b keep u w ↔ Branch (StepsOf b labels) u w
-kept-branch b labels keep h u w = (
-  λ e. record { at = e .at; within = e .within; leaves = e .leaves; label = h (e .at) (e .within) .0 (e .kept); enters = e .enters },
-  λ s. record { at = s .at; within = s .within; leaves = s .leaves; enters = s .enters; kept = h (s .at) (s .within) .1 (s .label) },
-)
-
+-- the kept transitions are those that stand
 pub kept-standing : (b labels standing : List ℕ) (u w : ℕ) → Kept b standing u w ↔ Any (StandingOf b labels standing) u w
 kept-standing b labels standing u w = (
-  λ e. (getD labels (e .at) 0, record { at = e .at; within = e .within; leaves = e .leaves; label = refl; enters = e .enters; stands = e .kept }),
-  λ (l, s). record { at = s .at; within = s .within; leaves = s .leaves; enters = s .enters; kept = s .stands },
+  λ e. (getD labels (e .at) 0, record { at = e .at; within = e .within; leaves = e .leaves; enters = e .enters; holds = record { label = refl; stands = e .holds .is } }),
+  λ (l, s). record { at = s .at; within = s .within; leaves = s .leaves; enters = s .enters; holds = record { is = s .holds .stands } },
 )

@@ -1,96 +1,37 @@
 -- The search along a table of successors.
 use mathlib.Core.Path.{_≡_, refl, sym, _∙_, subst}
-use mathlib.Core.Logic.{_≢_, _⊎_, inl, inr, _↔_}
-use mathlib.Core.Bool.{Bool, true, false, not, false≢true}
-use mathlib.Core.List.{List, [], _∷_}
-use Prim.Native.Nat.{ℕ, _+_, _-_, _*_, _/_, _%_, _^_, _≤_, _<_}
+use mathlib.Core.Logic.{_≢_, _⊎_, inl, inr, ⊎-elim, _↔_}
+use mathlib.Core.Bool.{Bool, true, false}
+use mathlib.Core.List.{List}
+use Prim.Native.Nat.{ℕ, _+_, _-_, _*_, _≤_, _<_}
 use native.Mathlib.Omega.{arith}
-use native.Mathlib.Decide.{ℕ-discrete}
-use borrow.Author.Tests.{eqb-true, eq-eqb}
-use lib.Dec.{eqb}
-use lib.ListN.{length, getD, set, length-set}
-use lib.Seq.{getD-set-same, getD-set-other}
-use Rattle.bits.specs.Words.{On, With, Has, HasRow}
-use Rattle.bits.proofs.Words.{subset-le}
-use Rattle.bits.proofs.Sets.{zero-off, none, has-within, has-either, with-low, with-high, low-has, high-has}
+use native.Mathlib.Decide.{ℕ-discrete, decLt}
+use borrow.Author.Count.{below-more}
+use lib.ListN.{length, replicate}
+use Rattle.bits.specs.declared.sets.Set.{Set}
+use Rattle.bits.specs.First.{First}
+use Rattle.bits.specs.Sets.{Has, emptySet, Empty, Members, Union, Difference, Last, sizeOf}
+use Rattle.bits.specs.Tables.{rowOf, HasRow, putRow, Words}
+use Rattle.bits.proofs.Members.{none, size-lt, has?}
+use Rattle.bits.proofs.Determined.{first-one}
+use Rattle.bits.proofs.Gains.{put-long, put-here, put-other, same-table}
 use Rattle.theory.specs.Paths.{Edges, Star, here, step, Plus, last, more, Avoid}
 use Rattle.theory.proofs.Paths.{star-then, star-snoc, star-map, plus-of, plus-snoc}
 use Rattle.chart.specs.declared.sets.Search.{Search}
-use Rattle.chart.specs.declared.sets.Move.{Move}
-use Rattle.chart.specs.Sets.{Leads, FromSet, Closed, Known, turnOf, beginOf, endOf, RowPut, FirstTurn, FirstCycle, Words, Finished, Jumps, Either, Added, Jumped, Visited, Taken}
-
--- the bits of b are those of x that are not y's
-abbrev pub But : ℕ → ℕ → ℕ → Type 0
-But x y b = (j : ℕ) → On b j ↔ (On x j × (¬ On y j))
-
--- where none is left, x has no bit that y has not, and the other way round
-none-left : (x y b : ℕ) → But x y b → b ≡ 0 → (j : ℕ) → On x j → On y j
-none-left x y b B e j on = elim (ℕ-discrete (y / 2 ^ j % 2) 1) [ yes h ↦ h | no h ↦ absurd (zero-off j (subst (λ (z : ℕ). On z j) e (B j .1 (on, h)))) ]
-
-left-none : (x y b : ℕ) → But x y b → ((j : ℕ) → On x j → On y j) → b ≡ 0
-left-none x y b B f = let h = subset-le b 0 (λ j on. absurd (B j .0 on .1 (f j (B j .0 on .0)))) in omega (arith, h)
-
-pub second-left : (s : Search) (b₁ : ℕ) → But (s .seen1) (s .past1) b₁ → b₁ ≢ 0 → ¬ Finished s
-second-left s b₁ C n f = n (left-none _ _ b₁ C (f .1))
-
-pub none-second : (s : Search) (b₀ b₁ : ℕ) → But (s .seen0) (s .past0) b₀ → But (s .seen1) (s .past1) b₁ → b₁ ≡ 0 → (not (eqb b₀ 0) ≡ true → ¬ Finished s) × (not (eqb b₀ 0) ≡ false → Finished s)
-none-second s b₀ b₁ B C e = (
-  λ h f. clash (eqb b₀ 0) (eq-eqb b₀ 0 (left-none _ _ b₀ B (f .0))) h,
-  λ h. both (eqb b₀ 0) refl h,
-)
-  where
-    clash : (p : Bool) → p ≡ true → not p ≡ true → ⊥
-    clash true e h = false≢true h
-    clash false e h = false≢true e
-
-    both : (p : Bool) → eqb b₀ 0 ≡ p → not p ≡ false → Finished s
-    both true p h = (none-left _ _ b₀ B (eqb-true b₀ 0 p), none-left _ _ b₁ C e)
-    both false p h = absurd (false≢true (sym h))
-
--- a set that gets the members of another: nothing else comes, and nothing goes
-pub either-has : (x₀ x₁ y₀ y₁ r₀ r₁ : ℕ) → Either x₀ y₀ r₀ → Either x₁ y₁ r₁ → (y : ℕ) → Has r₀ r₁ y ↔ (Has x₀ x₁ y ⊎ Has y₀ y₁ y)
-either-has x₀ x₁ y₀ y₁ r₀ r₁ f g = has-either x₀ x₁ y₀ y₁ r₀ r₁ f g
-
-either-le : (x y r : ℕ) → Either x y r → x ≤ r
-either-le x y r f = subset-le x r (λ j on. f j .1 (inl on))
+use Rattle.chart.specs.Sets.{Leads, FromSet, Known, Jumps, Visited, OnCycle, turnOf, beginOf, endOf, Searched, Cycles}
 
 -- w is where the search stops: nothing changes
-pub visit-stop : (a : List ℕ) (stop w : ℕ) (s : Search) → w ≡ stop → s .past0 < 2 ^ 64 → s .past1 < 2 ^ 64 → Visited a stop w s s
-visit-stop a stop w s e h k = record {
-  grows = λ y l. l;
-  sound = λ y l m. inl m;
-  passed = λ x y l m n o. inl (n, λ f. o .0 (f ∙ e));
-  more0 = omega arith;
-  more1 = omega arith;
-  fits0 = h;
-  fits1 = k;
-}
+pub visit-stop : (a : List ℕ) (stop w : ℕ) (s : Search) → w ≡ stop → Visited a stop w s s
+visit-stop a stop w s e = record { grows = λ y l. l; sound = λ y m. inl m; passed = λ x y n o. inl (n, λ f. o .0 (f ∙ e)); more = λ y l. l }
 
 -- the successors of w are seen
-pub visit-next : (a : List ℕ) (stop w : ℕ) (s r : Search) → w < 128 → w ≢ stop → s .past0 < 2 ^ 64 → s .past1 < 2 ^ 64 → Added a w s r → Visited a stop w s r
-visit-next a stop w s r l n h k A = record {
-  grows = λ y m. seen y .1 (inl m);
-  sound = λ y m o. from y m (seen y .0 o);
-  passed = λ x y m o p e. on x y o (subst (λ (z : ℕ). Has z (s .past1) x) (A .past0) (subst (λ (z : ℕ). Has (r .past0) z x) (A .past1) p)) e;
-  more0 = omega (arith, A .past0);
-  more1 = omega (arith, A .past1);
-  fits0 = omega (arith, h, A .past0);
-  fits1 = omega (arith, k, A .past1);
+pub visit-next : (a : List ℕ) (stop w : ℕ) (s : Search) (r : Set) → w < 128 → w ≢ stop → Union (s .seen) (rowOf a w) r → Visited a stop w s (record { seen = r; past = s .past })
+visit-next a stop w s r l n U = record {
+  grows = λ y m. U y .1 (inl m);
+  sound = λ y o. ⊎-elim inl (λ h. inr (step (n, record { from = l; has = h }) here)) (U y .0 o);
+  passed = λ x y p e. elim (ℕ-discrete x w) [ yes q ↦ inr (U y .1 (inr (subst (λ (z : ℕ). HasRow a z y) q (e .1 .has)))) | no q ↦ inl (p, q) ];
+  more = λ y m. m;
 }
-  where
-    seen : (y : ℕ) → Has (r .seen0) (r .seen1) y ↔ (Has (s .seen0) (s .seen1) y ⊎ HasRow a w y)
-    seen = either-has (s .seen0) (s .seen1) (getD a (2 * w) 0) (getD a (2 * w + 1) 0) (r .seen0) (r .seen1) (A .seen0) (A .seen1)
-
-    from : (y : ℕ) → y < 128 → (Has (s .seen0) (s .seen1) y ⊎ HasRow a w y) → Has (s .seen0) (s .seen1) y ⊎ Star (Avoid stop (Leads a)) w y
-    from y m (inl o) = inl o
-    from y m (inr o) = inr (step (n, record { from = l; to = m; has = o }) here)
-
-    on : (x y : ℕ) → y < 128 → Has (s .past0) (s .past1) x → Avoid stop (Leads a) x y → (Has (s .past0) (s .past1) x × (x ≢ w)) ⊎ Has (r .seen0) (r .seen1) y
-    on x y o p e = elim (ℕ-discrete x w) [ yes q ↦ inr (seen y .1 (inr (subst (λ (z : ℕ). HasRow a z y) q (e .1 .has)))) | no q ↦ inl (p, q) ]
-
-plus-within : {a : List ℕ} {w y : ℕ} → Plus (Leads a) w y → y < 128
-plus-within (last e) = e .to
-plus-within (more e p) = plus-within p
 
 -- a path that never comes to stop does not leave it
 avoids : {E : Edges} (stop : ℕ) {w y : ℕ} → Plus E w y → w ≢ stop → ((x : ℕ) → Plus E w x → x ≢ stop) → Star (Avoid stop E) w y
@@ -98,162 +39,97 @@ avoids stop (last e) n f = step (n, e) here
 avoids stop (more {w = x} e p) n f = step (n, e) (avoids stop p (f x (last e)) (λ z q. f z (more e q)))
 
 -- all that w reaches is seen and past
-pub visit-jump : (a after : List ℕ) (from to stop w : ℕ) (s r : Search) → Known a after from to → w < 128 → Jumps after from to stop w → Jumped after w s r → Visited a stop w s r
-visit-jump a after b t stop w s r K l j A = record {
-  grows = λ y m. seen y .1 (inl m);
-  sound = λ y m o. from y m (seen y .0 o);
-  passed = λ x y m o p e. on x y m o (past x .0 p) e;
-  more0 = either-le (s .past0) (getD after (2 * w) 0) (r .past0) (A .past0);
-  more1 = either-le (s .past1) (getD after (2 * w + 1) 0) (r .past1) (A .past1);
-  fits0 = A .fits0;
-  fits1 = A .fits1;
+pub visit-jump : (a after : List ℕ) (from to stop w : ℕ) (s : Search) (seen past : Set) → Known a after from to → w < 128 → Jumps after from to stop w → Union (s .seen) (rowOf after w) seen → Union (s .past) (rowOf after w) past → Visited a stop w s (record { seen = seen; past = past })
+visit-jump a after b t stop w s seen past K l j U P = record {
+  grows = λ y m. U y .1 (inl m);
+  sound = λ y o. ⊎-elim inl (λ h. inr (avoids stop (known y .0 h) (j .apart) never)) (U y .0 o);
+  passed = λ x y p e. on x y (P x .0 p) e;
+  more = λ y m. P y .1 (inl m);
 }
   where
-    seen : (y : ℕ) → Has (r .seen0) (r .seen1) y ↔ (Has (s .seen0) (s .seen1) y ⊎ HasRow after w y)
-    seen = either-has (s .seen0) (s .seen1) (getD after (2 * w) 0) (getD after (2 * w + 1) 0) (r .seen0) (r .seen1) (A .seen0) (A .seen1)
-
-    past : (y : ℕ) → Has (r .past0) (r .past1) y ↔ (Has (s .past0) (s .past1) y ⊎ HasRow after w y)
-    past = either-has (s .past0) (s .past1) (getD after (2 * w) 0) (getD after (2 * w + 1) 0) (r .past0) (r .past1) (A .past0) (A .past1)
+    known : (y : ℕ) → HasRow after w y ↔ Plus (Leads a) w y
+    known y = K .exactly w y (j .above) (j .below) l
 
     never : (x : ℕ) → Plus (Leads a) w x → x ≢ stop
-    never x p e = j .never (subst (λ (z : ℕ). HasRow after w z) e (K .exactly w x (j .above) (j .below) l (plus-within p) .1 p))
+    never x p e = j .never (subst (λ (z : ℕ). HasRow after w z) e (known x .1 p))
 
-    from : (y : ℕ) → y < 128 → (Has (s .seen0) (s .seen1) y ⊎ HasRow after w y) → Has (s .seen0) (s .seen1) y ⊎ Star (Avoid stop (Leads a)) w y
-    from y m (inl o) = inl o
-    from y m (inr o) = inr (avoids stop (K .exactly w y (j .above) (j .below) l m .0 o) (j .apart) never)
+    on : (x y : ℕ) → (Has (s .past) x ⊎ HasRow after w x) → Avoid stop (Leads a) x y → (Has (s .past) x × (x ≢ w)) ⊎ Has seen y
+    on x y (inl p) e = elim (ℕ-discrete x w) [ yes q ↦ inr (U y .1 (inr (known y .1 (last (subst (λ (z : ℕ). Leads a z y) q (e .1)))))) | no q ↦ inl (p, q) ]
+    on x y (inr p) e = inr (U y .1 (inr (known y .1 (plus-snoc (known x .0 p) (e .1)))))
 
-    on : (x y : ℕ) → x < 128 → y < 128 → (Has (s .past0) (s .past1) x ⊎ HasRow after w x) → Avoid stop (Leads a) x y → (Has (s .past0) (s .past1) x × (x ≢ w)) ⊎ Has (r .seen0) (r .seen1) y
-    on x y m o (inl p) e = elim (ℕ-discrete x w) [ yes q ↦ inr (seen y .1 (inr (K .exactly w y (j .above) (j .below) l o .1 (last (subst (λ (z : ℕ). Leads a z y) q (e .1)))))) | no q ↦ inl (p, q) ]
-    on x y m o (inr p) e = inr (seen y .1 (inr (K .exactly w y (j .above) (j .below) l o .1 (plus-snoc (K .exactly w x (j .above) (j .below) l m .0 p) (e .1)))))
+-- what holds of a search from a set
+pub record Searching (a : List ℕ) (stop : ℕ) (from seen past : Set) : Type 0 where
+  pub begun : (u : ℕ) → Has from u → Has seen u
+  pub sound : (w : ℕ) → Has seen w → FromSet (Avoid stop (Leads a)) from w
+  pub passed : (x y : ℕ) → Has past x → Avoid stop (Leads a) x y → Has seen y
 
--- the turn of a vertex that is left in the first word, and in the second
-pub taken-low : (s : Search) (t : Move) (b k p : ℕ) → But (s .seen0) (s .past0) b → k < 64 → On b k → With (s .past0) k p → t ≡ record { seen0 = s .seen0; seen1 = s .seen1; past0 = p; past1 = s .past1; at = k } → Taken s t
-taken-low s t b k p B l on W e =
-    let m = W .more (B k .0 on .1) in
-    rw e (record {
-      within = omega (arith, l);
-      was-seen = low-has (s .seen0) (s .seen1) k l (B k .0 on .0);
-      is0 = refl;
-      is1 = refl;
-      past = λ x h. with-low (s .past0) (s .past1) k p l W x .0;
-      more = omega (arith, m);
-    })
+pub searching : (a : List ℕ) (stop : ℕ) (from : Set) {past : Set} → past ≡ emptySet → Searching a stop from from past
+searching a stop from e = record { begun = λ u k. k; sound = λ w k. (w, k, here); passed = λ x y l. absurd (none x (rw e at l)) }
 
-pub taken-high : (s : Search) (t : Move) (b k p : ℕ) → But (s .seen1) (s .past1) b → k < 64 → On b k → With (s .past1) k p → t ≡ record { seen0 = s .seen0; seen1 = s .seen1; past0 = s .past0; past1 = p; at = 64 + k } → Taken s t
-taken-high s t b k p B l on W e =
-    let m = W .more (B k .0 on .1) in
-    rw e (record {
-      within = omega (arith, l);
-      was-seen = high-has (s .seen0) (s .seen1) k l (B k .0 on .0);
-      is0 = refl;
-      is1 = refl;
-      past = λ x h. with-high (s .past0) (s .past1) k p l W x h .0;
-      more = omega (arith, m);
-    })
+-- at first all that is seen is left
+pub all-left : (from : Set) {past : Set} → past ≡ emptySet → Difference from past from
+all-left from e w = ((λ h. (h, λ k. none w (rw e at k))), (λ h. h .0))
 
--- not all of the first word is past where all of the second is
-pub first-left : (s : Search) (b₀ b₁ : ℕ) → But (s .seen0) (s .past0) b₀ → But (s .seen1) (s .past1) b₁ → ¬ Finished s → b₁ ≡ 0 → b₀ ≢ 0
-first-left s b₀ b₁ B C n e f = n (none-left _ _ b₀ B f, none-left _ _ b₁ C e)
+module _ {a : List ℕ} {stop : ℕ} {from seen past left with-w : Set} {w : ℕ} (r : Search) (I : Searching a stop from seen past) (D : Difference seen past left) (L : Last left w)
+    (W : (y : ℕ) → Has with-w y ↔ (Has past y ⊎ (y ≡ w))) (O : Visited a stop w (record { seen = seen; past = with-w }) r) where
+  seen-w : Has seen w
+  seen-w = D w .0 (L .has) .0
 
--- what holds of a search from the set (lo, hi)
-pub record Searching (a : List ℕ) (stop lo hi : ℕ) (s : Search) : Type 0 where
-  pub begun : (u : ℕ) → u < 128 → Has lo hi u → Has (s .seen0) (s .seen1) u
-  pub sound : (w : ℕ) → w < 128 → Has (s .seen0) (s .seen1) w → FromSet (Avoid stop (Leads a)) lo hi w
-  pub passed : (x y : ℕ) → x < 128 → y < 128 → Has (s .past0) (s .past1) x → Avoid stop (Leads a) x y → Has (s .seen0) (s .seen1) y
-  pub fits0 : s .past0 < 2 ^ 64
-  pub fits1 : s .past1 < 2 ^ 64
+  pub search-on : Searching a stop from (r .seen) (r .past)
+  search-on = record {
+    begun = λ x k. O .grows x (I .begun x k);
+    sound = λ x k. ⊎-elim (I .sound x) (λ e. let f = I .sound w seen-w in (f .0, f .1, star-then (f .2) e)) (O .sound x k);
+    passed = λ x y l e. ⊎-elim (λ (p, n). ⊎-elim (λ q. O .grows y (I .passed x y q e)) (λ q. absurd (n q)) (W x .0 p)) (λ q. q) (O .passed x y l e);
+  }
 
-pub searching : (a : List ℕ) (stop lo hi : ℕ) (s : Search) → Words lo hi 0 0 s → Searching a stop lo hi s
-searching a stop lo hi s T = record {
-  begun = λ u h k. rw (T .is0, T .is1) k;
-  sound = λ w h k. (w, h, rw (T .is0, T .is1) at k, here);
-  passed = λ x y h k l. absurd (none x (rw (T .was0, T .was1) at l));
-  fits0 = omega (arith, T .was0);
-  fits1 = omega (arith, T .was1);
-}
+  -- one more is past
+  pub search-less : sizeOf past < sizeOf (r .past)
+  search-less = size-lt past (r .past) w (λ y h. O .more y (W y .1 (inl h))) (O .more w (W w .1 (inr refl))) (D w .0 (L .has) .1)
 
-pub search-on : (a : List ℕ) (stop lo hi : ℕ) (s u r : Search) {t : Move} → Searching a stop lo hi s → Taken s t → Words (t .seen0) (t .seen1) (t .past0) (t .past1) u → Visited a stop (t .at) u r → Searching a stop lo hi r × (s .past0 + s .past1 < r .past0 + r .past1)
-search-on a stop lo hi s u r {t} I T W O = (
-  record {
-    begun = λ x h k. O .grows x (seen x .1 (I .begun x h k));
-    sound = λ w h k. known w h (O .sound w h k);
-    passed = λ x y h k l e. onward x y h k (O .passed x y h k l e) e;
-    fits0 = O .fits0;
-    fits1 = O .fits1;
-  },
-  omega (arith, T .more, W .was0, W .was1, O .more0, O .more1),
-)
+pub searched : {a : List ℕ} {stop : ℕ} {from seen past left : Set} → Searching a stop from seen past → Difference seen past left → Empty left → Members (FromSet (Avoid stop (Leads a)) from) seen
+searched {a} {stop} {from} {seen} {past} {left} I D E = record { exactly = λ w l. (I .sound w, λ (u, h, p). along p (I .begun u h)) }
   where
-    seen : (x : ℕ) → Has (u .seen0) (u .seen1) x ↔ Has (s .seen0) (s .seen1) x
-    seen x = rw (W .is0, W .is1, T .is0, T .is1) (λ h. h, λ h. h)
+    is-past : (w : ℕ) → Has seen w → Has past w
+    is-past w h = elim (has? past w) [ yes k ↦ k | no k ↦ absurd (E w (D w .1 (h, k))) ]
 
-    past : (x : ℕ) → x < 128 → Has (u .past0) (u .past1) x → Has (s .past0) (s .past1) x ⊎ (x ≡ t .at)
-    past x h k = T .past x h (rw (W .was0, W .was1) at k)
-
-    known : (w : ℕ) → w < 128 → (Has (u .seen0) (u .seen1) w ⊎ Star (Avoid stop (Leads a)) (t .at) w) → FromSet (Avoid stop (Leads a)) lo hi w
-    known w h (inl k) = I .sound w h (seen w .0 k)
-    known w h (inr e) = let f = I .sound (t .at) (T .within) (T .was-seen) in (f .0, f .1, f .2, star-then (f .3) e)
-
-    onward : (x y : ℕ) → x < 128 → y < 128 → ((Has (u .past0) (u .past1) x × (x ≢ t .at)) ⊎ Has (r .seen0) (r .seen1) y) → Avoid stop (Leads a) x y → Has (r .seen0) (r .seen1) y
-    onward x y h k (inl (l, n)) e = elim (past x h l) [ inl q ↦ O .grows y (seen y .1 (I .passed x y h k q e)) | inr q ↦ absurd (n q) ]
-    onward x y h k (inr q) e = q
-
-pub searched : (a : List ℕ) (stop lo hi : ℕ) (s : Search) → Searching a stop lo hi s → Finished s → Closed a stop lo hi (s .seen0 ∷ s .seen1 ∷ [])
-searched a stop lo hi s I F = record { long = refl; exactly = λ w h. (I .sound w h, λ f. along (f .3) (f .1) (I .begun (f .0) (f .1) (f .2))) }
-  where
-    past : (w : ℕ) → Has (s .seen0) (s .seen1) w → Has (s .past0) (s .past1) w
-    past = has-within (s .seen0) (s .seen1) (s .past0) (s .past1) (F .0) (F .1)
-
-    along : {u w : ℕ} → Star (Avoid stop (Leads a)) u w → u < 128 → Has (s .seen0) (s .seen1) u → Has (s .seen0) (s .seen1) w
-    along here h k = k
-    along {u} (step {w = x} e p) h k = along p (e .1 .to) (I .passed u x h (e .1 .to) (past u k) e)
+    along : {u w : ℕ} → Star (Avoid stop (Leads a)) u w → Has seen u → Has seen w
+    along here k = k
+    along {u} (step {w = x} e p) k = along p (I .passed u x (is-past u k) e)
 
 -- where nothing is known, nothing is asked of the table of what is
 pub known-none : (a after : List ℕ) → Known a after 0 0
 known-none a after = record { exactly = λ x y h l. absurd (omega (arith, l)) }
 
--- a set of a table is stored
-pub row-put : (a : List ℕ) (w lo hi : ℕ) → length a ≡ 256 → w < 128 → RowPut a w lo hi (set (set a (2 * w) lo) (2 * w + 1) hi)
-row-put a w lo hi l h = record {
-  long = length-set (set a (2 * w) lo) (2 * w + 1) hi ∙ length-set a (2 * w) lo ∙ l;
-  low = getD-set-other (set a (2 * w) lo) (2 * w + 1) (2 * w) hi 0 (λ e. omega (arith, e)) ∙ getD-set-same a (2 * w) lo 0 (omega (arith, l, h));
-  high = getD-set-same (set a (2 * w) lo) (2 * w + 1) hi 0 (omega (arith, l, h, length-set a (2 * w) lo));
-  others = λ x n. (
-    getD-set-other (set a (2 * w) lo) (2 * w + 1) (2 * x) hi 0 (λ e. omega (arith, e)) ∙ getD-set-other a (2 * w) (2 * x) lo 0 (λ e. n (omega (arith, e))),
-    getD-set-other (set a (2 * w) lo) (2 * w + 1) (2 * x + 1) hi 0 (λ e. n (omega (arith, e))) ∙ getD-set-other a (2 * w) (2 * x + 1) lo 0 (λ e. omega (arith, e)),
-  );
-}
-
 -- the search from the successors of w, stopping at w
-module _ (a : List ℕ) (w : ℕ) (r : List ℕ) (l : w < 128) (C : Closed a w (getD a (2 * w) 0) (getD a (2 * w + 1) 0) r) where
-  abbrev Met : ℕ → Type 0
-  Met y = Has (getD r 0 0) (getD r 1 0) y
+module _ (a : List ℕ) (w : ℕ) (r : Set) (l : w < 128) (C : Members (FromSet (Avoid w (Leads a)) (rowOf a w)) r) where
+  pub met-plus : (y : ℕ) → Has r y → Plus (Leads a) w y
+  met-plus y h = let f = C .exactly y (h .below) .0 h in plus-of (record { from = l; has = f .1 }) (star-map (λ u x e. e .1) (f .2))
 
-  pub met-plus : (y : ℕ) → y < 128 → Met y → Plus (Leads a) w y
-  met-plus y m h = let f = C .exactly y m .0 h in plus-of (record { from = l; to = f .1; has = f .2 }) (star-map (λ u x e. e .1) (f .3))
+  module _ (not : ¬ Has r w) where
+    onward : (x y : ℕ) → Has r x → Leads a x y → Has r y
+    onward x y h e = let f = C .exactly x (h .below) .0 h in C .exactly y (e .has .below) .1 (f .0, f .1, star-snoc (f .2) ((λ q. not (subst (Has r) q h)), e))
 
-  module _ (not : ¬ Met w) where
-    onward : (x y : ℕ) → x < 128 → Met x → Leads a x y → Met y
-    onward x y m h e = let f = C .exactly x m .0 h in C .exactly y (e .to) .1 (f .0, f .1, f .2, star-snoc (f .3) ((λ q. not (subst Met q h)), e))
+    along : {x y : ℕ} → Plus (Leads a) x y → Has r x → Has r y
+    along {x} {y} (last e) h = onward x y h e
+    along {x} (more {w = z} e p) h = along p (onward x z h e)
 
-    along : {x y : ℕ} → Plus (Leads a) x y → x < 128 → Met x → Met y
-    along {x} {y} (last e) m h = onward x y m h e
-    along {x} (more {w = z} e p) m h = along p (e .to) (onward x z m h e)
+    pub plus-met : {y : ℕ} → Plus (Leads a) w y → Has r y
+    plus-met {y} (last e) = C .exactly y (e .has .below) .1 (y, e .has, here)
+    plus-met (more {w = z} e p) = along p (C .exactly z (e .has .below) .1 (z, e .has, here))
 
-    pub plus-met : {y : ℕ} → Plus (Leads a) w y → Met y
-    plus-met {y} (last e) = C .exactly y (e .to) .1 (y, e .to, e .has, here)
-    plus-met (more {w = z} e p) = along p (e .to) (C .exactly z (e .to) .1 (z, e .to, e .has, here))
-
-    pub known-more : (after put : List ℕ) (b t c u : ℕ) → Known a after b t → RowPut after w (getD r 0 0) (getD r 1 0) put → ((x : ℕ) → x ≢ w → c ≤ x → x < u → (b ≤ x) × (x < t)) → Known a put c u
-    known-more after put b t c u K P G = record { exactly = λ x y p q i j. pick x y p q i j (ℕ-discrete x w) }
+    pub known-more : (after : List ℕ) (b t c u : ℕ) → length after ≡ 256 → Known a after b t → ((x : ℕ) → x ≢ w → c ≤ x → x < u → (b ≤ x) × (x < t)) → Known a (putRow after w r) c u
+    known-more after b t c u long K G = record { exactly = λ x y p q i. pick x y p q i (ℕ-discrete x w) }
       where
-        pick : (x y : ℕ) → c ≤ x → x < u → x < 128 → y < 128 → Dec (x ≡ w) → HasRow put x y ↔ Plus (Leads a) x y
-        pick x y p q i j (yes e) = subst (λ (z : ℕ). HasRow put z y ↔ Plus (Leads a) z y) (sym e) ((λ k. met-plus y j (rw (P .low, P .high) at k)), (λ p. rw (P .low, P .high) (plus-met p)))
-        pick x y p q i j (no n) =
-            let o = P .others x n in
+        at-w : rowOf (putRow after w r) w ≡ r
+        at-w = put-here after w r (omega (arith, long, l))
+
+        pick : (x y : ℕ) → c ≤ x → x < u → x < 128 → Dec (x ≡ w) → HasRow (putRow after w r) x y ↔ Plus (Leads a) x y
+        pick x y p q i (yes e) = subst (λ (z : ℕ). HasRow (putRow after w r) z y ↔ Plus (Leads a) z y) (sym e) ((λ k. met-plus y (rw at-w at k)), (λ p. rw at-w (plus-met p)))
+        pick x y p q i (no n) =
+            let o = put-other after w r x n in
             let g = G x n p q in
-            let k = K .exactly x y (g .0) (g .1) i j in
-            ((λ z. k .0 (rw (o .0, o .1) at z)), (λ p. rw (o .0, o .1) (k .1 p)))
+            let k = K .exactly x y (g .0) (g .1) i in
+            ((λ z. k .0 (rw o at z)), (λ p. rw o (k .1 p)))
 
 -- the turns of the first n vertices are theirs, and each has one
 pub turn-low : (i n : ℕ) (down : Bool) → i < n → turnOf i n down < n
@@ -277,10 +153,103 @@ pub turns-all : {a after : List ℕ} {i n : ℕ} (down : Bool) → n ≤ i → i
 turns-all true h l K = record { exactly = λ x y p q. K .exactly x y (omega (arith, h, l)) q }
 turns-all false h l K = record { exactly = λ x y p q. K .exactly x y p (omega (arith, q, h)) }
 
--- where no turn from above finds a cycle there is none
-pub none-above : {a : List ℕ} {n r : ℕ} → FirstTurn a n true r → r ≡ n → FirstCycle a n n
-none-above {a} {n} F e = record {
-  within = omega arith;
-  cycles = λ h. absurd (omega (arith, h));
-  below = λ k h p. let j = turned k n true h in F .below (j .0) (omega (arith, j .1, e)) (subst (λ (x : ℕ). Plus (Leads a) x x) (sym (j .2)) p);
+-- what the loop over the turns keeps
+pub record Turning (a : List ℕ) (n : ℕ) (down : Bool) (before : List ℕ) (i : ℕ) (after : List ℕ) : Type 0 where
+  pub long : length after ≡ 256
+  pub known : Known a after (beginOf i n down) (endOf i n down)
+  pub acyclic : (j : ℕ) → j < i → ¬ OnCycle a (turnOf j n down)
+  pub others : (x : ℕ) → n ≤ x → rowOf after x ≡ rowOf before x
+
+pub turning-none : (a : List ℕ) (n : ℕ) (down : Bool) (before : List ℕ) → length before ≡ 256 → Turning a n down before 0 before
+turning-none a n down before l = record { long = l; known = turns-none a before n down; acyclic = λ j h. absurd (omega (arith, h)); others = λ x h. refl }
+
+module _ {a : List ℕ} {n : ℕ} {down : Bool} {before after : List ℕ} {i : ℕ} (T : Turning a n down before i after) (h : i < n) (small : n ≤ 128) (w : ℕ) (e : w ≡ turnOf i n down)
+    {r : Set} (C : Members (FromSet (Avoid w (Leads a)) (rowOf a w)) r) where
+  low : w < n
+  low = rw e (turn-low i n down h)
+
+  pub turning-found : Has r w → Searched a n down before i after
+  turning-found g = record {
+    long = T .long;
+    first = record {
+      from = omega arith;
+      within = omega (arith, h);
+      holds = λ l. subst (OnCycle a) e (met-plus a w r (omega (arith, low, small)) C w g);
+      before = λ k z l. T .acyclic k l;
+    };
+    known = λ f. absurd (omega (arith, f, h));
+    others = T .others;
+  }
+
+  pub turning-more : ¬ Has r w → Turning a n down before (i + 1) (putRow after w r)
+  turning-more off = record {
+    long = put-long after w r ∙ T .long;
+    known = known-more a w r (omega (arith, low, small)) C off after _ _ _ _ (T .long) (T .known) (turn-more i n w down h e);
+    acyclic = below-more (λ (j : ℕ). ¬ OnCycle a (turnOf j n down)) i (T .acyclic) (subst (λ (x : ℕ). ¬ OnCycle a x) e (λ p. off (plus-met a w r (omega (arith, low, small)) C off p)));
+    others = λ x l. put-other after w r x (λ f. omega (arith, f, l, low)) ∙ T .others x l;
+  }
+
+pub turning-all : {a : List ℕ} {n : ℕ} {down : Bool} {before after : List ℕ} {i : ℕ} → Turning a n down before i after → n ≤ i → i ≤ n → Searched a n down before i after
+turning-all {down = down} T h l = record {
+  long = T .long;
+  first = record { from = omega arith; within = l; holds = λ f. absurd (omega (arith, f, h)); before = λ k z f. T .acyclic k f };
+  known = λ e. turns-all down h l (T .known);
+  others = T .others;
 }
+
+-- where no turn from above finds a cycle there is none
+pub none-above : {a before after : List ℕ} {n r : ℕ} → Searched a n true before r after → r ≡ n → First (OnCycle a) 0 n n
+none-above {a} {n = n} {r} S e = record {
+  from = omega arith;
+  within = omega arith;
+  holds = λ h. absurd (omega (arith, h));
+  before = λ k z h p. let j = turned k n true h in S .first .before (j .0) (omega arith) (omega (arith, j .1, e)) (subst (OnCycle a) (sym (j .2)) p);
+}
+
+pub from-above : {a before after : List ℕ} {n r : ℕ} → Searched a n true before r after → r ≡ n → Cycles a n before n after
+from-above S e = record { long = S .long; first = none-above S e; known = λ f. S .known e; others = λ f. S .others; cleared = λ h. absurd (omega (arith, h)) }
+
+-- from below the first turn with a cycle is that of the lowest vertex on one
+pub from-below : {a before after : List ℕ} {n r : ℕ} → Searched a n false before r after → n ≤ r → Cycles a n before r after
+from-below S l = record { long = S .long; first = S .first; known = S .known; others = λ f. S .others; cleared = λ h. absurd (omega (arith, h, l)) }
+
+pub from-below-cleared : {a before after : List ℕ} {n r : ℕ} → Searched a n false before r after → r < n → Cycles a n before r (replicate 256 0)
+from-below-cleared S l = record { long = refl; first = S .first; known = λ e. absurd (omega (arith, e, l)); others = λ e. absurd (omega (arith, e, l)); cleared = λ h. refl }
+
+-- where a turn from above has found a cycle, what it left in the table is cleared
+pub from-below-again : {a before between after : List ℕ} {n r t : ℕ} → Searched a n true before t between → t ≢ n → Cycles a n between r after → Cycles a n before r after
+from-below-again {a} {n = n} {r} {t} S m C = record { long = C .long; first = C .first; known = C .known; others = λ e. absurd (found e); cleared = C .cleared }
+  where
+    inside : t < n
+    inside = omega (arith, S .first .within, m)
+
+    found : ¬ (r ≡ n)
+    found e = let l = turn-low t n true inside in C .first .before (turnOf t n true) (omega arith) (omega (arith, l, e)) (S .first .holds inside)
+
+below-or : (v n : ℕ) → (v < n) ⊎ (n ≤ v)
+below-or v n = elim (decLt v n) [ yes h ↦ inl h | no h ↦ inr (omega (arith, h)) ]
+
+-- ONE ANSWER of `cycle`
+pub cycles-one : {a before : List ℕ} {n r t : ℕ} {x y : List ℕ} → n ≤ 128 → Words x → Words y → Cycles a n before r x → Cycles a n before t y → (r ≡ t) × (x ≡ y)
+cycles-one {a} {before} {n} {r} {t} {x} {y} small W Z C D = (same, elim (ℕ-discrete r n) [ yes e ↦ whole e | no e ↦ C .cleared (inside e) ∙ sym (D .cleared (omega (arith, inside e, same))) ])
+  where
+    same : r ≡ t
+    same = first-one (C .first) (D .first)
+
+    inside : ¬ (r ≡ n) → r < n
+    inside e = omega (arith, C .first .within, e)
+
+    whole : r ≡ n → x ≡ y
+    whole e = same-table x y 128 W Z (C .long) (D .long) each
+      where
+        f : t ≡ n
+        f = sym same ∙ e
+
+        each : (v : ℕ) → v < 128 → ((w : ℕ) → HasRow x v w ↔ HasRow y v w)
+        each v h w = elim (below-or v n) [ inl l ↦ known l | inr l ↦ other l ]
+          where
+            known : v < n → HasRow x v w ↔ HasRow y v w
+            known l = let p = C .known e .exactly v w (omega arith) l h in let q = D .known f .exactly v w (omega arith) l h in ((λ g. q .1 (p .0 g)), (λ g. p .1 (q .0 g)))
+
+            other : n ≤ v → HasRow x v w ↔ HasRow y v w
+            other l = let q : rowOf x v ≡ rowOf y v = C .others e v l ∙ sym (D .others f v l) in ((λ g. rw q at g), (λ g. rw q g))

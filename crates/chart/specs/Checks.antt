@@ -27,7 +27,12 @@ headerOk b =
 
 -- a transition by itself
 unfoldable pub fitsAt : List ℕ → ℕ → Bool
-fitsAt b i = leb 1 (fromOf b i) and ltb (fromOf b i) (verticesOf b) and leb 1 (actionOf b i) and ltb (toOf b i) (verticesOf b) and eqb (padOf b i) 0
+fitsAt b i =
+    leb 1 (fromOf b i)
+    and ltb (fromOf b i) (verticesOf b)
+    and leb 1 (actionOf b i)
+    and ltb (toOf b i) (verticesOf b)
+    and eqb (padOf b i) 0
 
 -- a transition and the one before it; the first has none
 unfoldable pub aboveAt : List ℕ → ℕ → Bool

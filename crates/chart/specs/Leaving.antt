@@ -7,6 +7,7 @@ use lib.ListN.{length, getD, take, drop}
 use lib.Dec.{eqb}
 use Rattle.report.specs.declared.Stage.{Stage}
 use Rattle.report.specs.declared.Stage.the-variants.{Passed, Refused}
+use Rattle.bits.specs.First.{Split}
 use Rattle.chart.specs.Bodies.{countOf, fromOf}
 use Rattle.chart.specs.Checks.{checkOf}
 
@@ -27,13 +28,18 @@ whenPassed (Refused p) a z = z
 unfoldable pub leavingOf : List ℕ → ℕ → List ℕ
 leavingOf b v = whenPassed (checkOf b) (leavingAt b v 0 (countOf b)) []
 
--- r parts the first n transitions into those that leave a vertex below v and the others
-pub record Split (b : List ℕ) (n v r : ℕ) : Type 0 where
-  pub within : r ≤ n
-  pub below : (i : ℕ) → i < r → fromOf b i < v
-  pub above : (i : ℕ) → r ≤ i → i < n → v ≤ fromOf b i
+-- transition i leaves a vertex below v
+pub record FromBelow (b : List ℕ) (v i : ℕ) : Type 0 where
+  pub is : fromOf b i < v
 
--- entry v of r is the number of transitions whose from is below v
-pub record Rows (b r : List ℕ) : Type 0 where
+-- a place of a body of n transitions that passes, not past those of v
+pub record NotPast (b : List ℕ) (n v at : ℕ) : Type 0 where
+  pub passed : checkOf b ≡ Passed
+  pub many : n ≡ countOf b
+  pub within : at ≤ n
+  pub below : (i : ℕ) → i < at → fromOf b i < v
+
+-- entry v of r is the number of transitions whose from is below v: where those of v begin
+pub record Begins (b r : List ℕ) : Type 0 where
   pub long : length r ≡ 129
-  pub split : (v : ℕ) → v ≤ 128 → Split b (countOf b) v (getD r v 0)
+  pub split : (v : ℕ) → v ≤ 128 → Split (FromBelow b v) (countOf b) (getD r v 0)

@@ -1,10 +1,10 @@
--- The definitions: the meaning first, then the tests.
+-- The definitions. The meaning: Bodies, Steps, Standing, Sets (what a search reaches), Numbered. The tests that run:
+-- Checks and Leaving. Codes only serves the proof of `check`.
 pub mod Bodies
 pub mod Checks
 pub mod Leaving
-pub mod Reached
-pub mod Marks
-pub mod Words
+pub mod Codes
 pub mod Steps
+pub mod Standing
 pub mod Sets
 pub mod Numbered

@@ -7,16 +7,20 @@ use lib.ListN.{length, getD}
 use Rattle.bits.specs.Words.{On}
 use Rattle.chart.specs.Steps.{ActsOf}
 
--- the first m keys are 256 * action + target, in order; a word has only bits of keys
+-- the first m keys are 256 * action + target, in order, each used by some word, and 0 stands past them; a word has only
+-- bits of keys
 pub record Coded (keys words : List ℕ) (m : ℕ) : Type 0 where
   pub few : m ≤ 64
   pub keys-long : length keys ≡ 128
   pub words-long : length words ≡ 128
   pub fit : (i : ℕ) → i < m → getD keys i 0 < 65536
   pub rising : (i j : ℕ) → i < j → j < m → getD keys i 0 < getD keys j 0
+  pub rest : (i : ℕ) → m ≤ i → getD keys i 0 ≡ 0
   pub known : (u i : ℕ) → On (getD words u 0) i → i < m
+  pub used : (i : ℕ) → i < m → (u : ℕ) × On (getD words u 0) i
 
 -- bit i of word u says that vertex u has the step of key i
 pub record Numbered (body keys words : List ℕ) (m : ℕ) : Type 0 where
   pub coded : Coded keys words m
-  pub exactly : (u a w : ℕ) → ActsOf body u a w ↔ ((i : ℕ) × (i < m) × (getD keys i 0 / 256 ≡ a) × (getD keys i 0 % 256 ≡ w) × On (getD words u 0) i)
+  pub exactly : (u a w : ℕ) → ActsOf body u a w
+      ↔ ((i : ℕ) × (i < m) × (getD keys i 0 / 256 ≡ a) × (getD keys i 0 % 256 ≡ w) × On (getD words u 0) i)

@@ -1,4 +1,4 @@
--- A chart body as the theory has charts: its transitions as a list, and as relations under a labelling and standing bytes.
+-- A chart body as the theory has charts: its transitions as a list, and as relations.
 use Prim.Native.Nat.{ℕ, zero, suc, _<_}
 use mathlib.Core.Path.{_≡_}
 use mathlib.Core.List.{List, [], _∷_}
@@ -18,27 +18,39 @@ transitionsFrom b i (suc n) = transitionAt b i ∷ transitionsFrom b (suc i) n
 unfoldable pub transitionsOf : List ℕ → List Transition
 transitionsOf b = transitionsFrom b 0 (countOf b)
 
+-- some transition leads from u to w, at an index with P
+pub record Via (body : List ℕ) (P : ℕ → Type 0) (u w : ℕ) : Type 0 where
+  pub at : ℕ
+  pub within : at < countOf body
+  pub leaves : fromOf body at ≡ u
+  pub enters : toOf body at ≡ w
+  pub holds : P at
+
+-- entry i of a list of bytes is x
+pub record At (bytes : List ℕ) (x i : ℕ) : Type 0 where
+  pub is : getD bytes i 0 ≡ x
+
+-- the action of transition i is a
+pub record Acts (body : List ℕ) (a i : ℕ) : Type 0 where
+  pub is : actionOf body i ≡ a
+
+-- transition i has the label l and the standing byte 1
+pub record Stands (labels standing : List ℕ) (l i : ℕ) : Type 0 where
+  pub label : getD labels i 0 ≡ l
+  pub stands : getD standing i 0 ≡ 1
+
 -- some transition with the action a leads from u to w
-pub record ActsOf (body : List ℕ) (u a w : ℕ) : Type 0 where
-  pub at : ℕ
-  pub within : at < countOf body
-  pub leaves : fromOf body at ≡ u
-  pub acts : actionOf body at ≡ a
-  pub enters : toOf body at ≡ w
+abbrev pub ActsOf : List ℕ → ℕ → ℕ → ℕ → Type 0
+ActsOf body u a w = Via body (Acts body a) u w
 
--- some transition with the label l leads from u to w
-pub record StepsOf (body labels : List ℕ) (u l w : ℕ) : Type 0 where
-  pub at : ℕ
-  pub within : at < countOf body
-  pub leaves : fromOf body at ≡ u
-  pub label : getD labels at 0 ≡ l
-  pub enters : toOf body at ≡ w
+-- some transition with the label l
+abbrev pub StepsOf : List ℕ → List ℕ → ℕ → ℕ → ℕ → Type 0
+StepsOf body labels u l w = Via body (At labels l) u w
 
--- some transition does whose standing byte is 1
-pub record StandingOf (body labels standing : List ℕ) (u l w : ℕ) : Type 0 where
-  pub at : ℕ
-  pub within : at < countOf body
-  pub leaves : fromOf body at ≡ u
-  pub label : getD labels at 0 ≡ l
-  pub enters : toOf body at ≡ w
-  pub stands : getD standing at 0 ≡ 1
+-- some transition with the label l that stands
+abbrev pub StandingOf : List ℕ → List ℕ → List ℕ → ℕ → ℕ → ℕ → Type 0
+StandingOf body labels standing u l w = Via body (Stands labels standing l) u w
+
+-- some transition whose `keep` byte is 1
+abbrev pub Kept : List ℕ → List ℕ → ℕ → ℕ → Type 0
+Kept body keep u w = Via body (At keep 1) u w

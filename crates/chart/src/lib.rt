@@ -1,29 +1,29 @@
-// Chart bodies (document 01, kind 2): a header of four bytes (V, start, two bytes of T) and T transitions of four bytes.
+// Chart bodies (document 01, kind 2): a header of four bytes (V, start, two of T) and T transitions of four bytes.
 pub mod sets;
 
 ghost use mathlib.Core.Path.{_≡_};
 ghost use Prim.Native.Nat.{ℕ, _+_, _*_, _≤_, _<_};
 ghost use lib.ListN.{length, getD};
-ghost use Rattle.chart.specs.Bodies.{countOf, fromOf};
+ghost use Rattle.chart.specs.Bodies.{countOf};
 ghost use Rattle.chart.specs.Checks.{headerOk, checkOf};
-ghost use Rattle.chart.specs.Words.{wordOf, turnedOf, wordOk};
-ghost use Rattle.chart.specs.Leaving.{leavingAt, leavingOf, Split, Rows};
-ghost use Rattle.chart.specs.Reached.{Kept, Reached};
-ghost use Rattle.chart.specs.Marks.{Marks};
+ghost use Rattle.chart.specs.Codes.{reversedOf, codeOk};
+ghost use Rattle.chart.specs.Leaving.{leavingAt, leavingOf, FromBelow, NotPast, Begins};
+ghost use Rattle.chart.specs.Steps.{Kept};
+ghost use Rattle.bits.specs.First.{Split};
 ghost use Rattle.bits.specs.Tables.{Table, Gains, When};
 use bits::byte;
-use bits::holds;
-use bits::insert;
+use bits::read_u16;
+use bits::read_u32;
+use bits::tables::insert;
 use report::Place;
 use report::Stage;
-use sets::closure;
 
 // T, the number of transitions that the header declares.
 pub fn count(body: &[u8]) -> usize
     requires { ⌜ 4 ≤ length (now body) ⌝ }
     ensures { λ r. ⌜ (r ≡ countOf (now (body .entry))) × (r < 65536) ⌝ }
 {
-    byte(body, 2) + 256 * byte(body, 3)
+    read_u16(body, 2)
 }
 
 fn header_ok(body: &[u8]) -> bool
@@ -38,39 +38,24 @@ fn header_ok(body: &[u8]) -> bool
     (2 <= v) & (v <= 128) & (1 <= start) & (start < v) & (n <= 8192) & (body.len() == 4 + 4 * n)
 }
 
-// Four bytes as one number, the first lowest.
-fn joined(a: u8, b: u8, c: u8, d: u8) -> usize
-    ensures { λ r. ⌜ (r ≡ a + 256 * b + 65536 * c + 16777216 * d) × (r < 4294967296) ⌝ }
+// The bytes of a transition's code, the first highest: the order of charts.
+fn reversed(code: usize) -> usize
+    requires { ⌜ code < 4294967296 ⌝ }
+    ensures { λ r. ⌜ r ≡ reversedOf code ⌝ }
 {
-    a as usize + 256 * (b as usize) + 65536 * (c as usize) + 16777216 * (d as usize)
+    16777216 * (code % 256)
+        + 65536 * (code / 256 % 256)
+        + 256 * (code / 65536 % 256)
+        + code / 16777216
 }
 
-// The transition at a byte offset as one number. Where its bytes are indexed in one function, the compiler makes them one load.
-fn word_at(body: &[u8], p: usize) -> usize
-    requires { ⌜ p + 4 ≤ length (now body) ⌝ }
-    ensures { λ r. ⌜ (r ≡ wordOf (now (body .entry)) p) × (r < 4294967296) ⌝ }
-{
-    joined(body[p], body[p + 1], body[p + 2], body[p + 3])
-}
-
-// The same bytes, the first highest: the order of charts.
-fn turned(word: usize) -> usize
-    requires { ⌜ word < 4294967296 ⌝ }
-    ensures { λ r. ⌜ r ≡ turnedOf word ⌝ }
-{
-    16777216 * (word % 256)
-        + 65536 * (word / 256 % 256)
-        + 256 * (word / 65536 % 256)
-        + word / 16777216
-}
-
-// 21 of a transition by its word and its key, the word turned round, after the key before it. That is 16777215 or more, so the first
-// comparison refuses a from of 0; the last refuses a last byte other than 0.
-fn word_ok(word: usize, key: usize, v: usize, before: usize) -> bool
+// 21 of a transition by its code and its key, the code reversed, after the key before it. That is 16777215 or more, so
+// the first comparison refuses a from of 0; the last refuses a last byte other than 0.
+fn code_ok(code: usize, key: usize, v: usize, before: usize) -> bool
     requires { ⌜ v ≤ 128 ⌝ }
-    ensures { λ r. ⌜ r ≡ wordOk word key v before ⌝ }
+    ensures { λ r. ⌜ r ≡ codeOk code key v before ⌝ }
 {
-    (before < key) & (key < 16777216 * v) & (1 <= word / 256 % 256) & (word < 65536 * v)
+    (before < key) & (key < 16777216 * v) & (1 <= code / 256 % 256) & (code < 65536 * v)
 }
 
 // What 20 and 21 say of a chart body.
@@ -85,9 +70,9 @@ pub fn check(body: &[u8]) -> Stage
     let mut before: usize = 16777215;
     let mut p: usize = 4;
     while p + 4 <= body.len() {
-        let word = word_at(body, p);
-        let key = turned(word);
-        if !word_ok(word, key, v, before) {
+        let code = read_u32(body, p);
+        let key = reversed(code);
+        if !code_ok(code, key, v, before) {
             return Stage::Refused(Place::Transition((p - 4) / 4));
         }
         before = key;
@@ -99,7 +84,7 @@ pub fn check(body: &[u8]) -> Stage
 // The number of transitions whose from is below v, by halving: froms do not fall.
 fn lower(body: &[u8], n: usize, v: usize) -> usize
     requires { ⌜ (checkOf (now body) ≡ Stage.Passed) × (n ≡ countOf (now body)) ⌝ }
-    ensures { λ r. ⌜ Split (now (body .entry)) n v r ⌝ }
+    ensures { λ r. ⌜ Split (FromBelow (now (body .entry)) v) n r ⌝ }
 {
     let mut lo: usize = 0;
     let mut hi = n;
@@ -128,7 +113,8 @@ fn leaving_part(body: &[u8], v: usize) -> &[u8]
     &body[a..e]
 }
 
-// The transitions that leave a vertex, as a part of the body: nothing for a number of V or above, or where 20 or 21 refuses.
+// The transitions that leave a vertex, as a part of the body: nothing for a number of V or above, or where 20 or 21
+// refuses.
 pub fn leaving(body: &[u8], vertex: usize) -> &[u8]
     ensures { λ r. ⌜ now r ≡ leavingOf (now (body .entry)) vertex ⌝ }
 {
@@ -138,10 +124,10 @@ pub fn leaving(body: &[u8], vertex: usize) -> &[u8]
     }
 }
 
-// On from a place with only froms below v before it to another, by eights: froms do not fall.
+// From a place that is not past the transitions of v on to another, by eights: froms do not fall.
 fn skip(body: &[u8], n: usize, v: usize, at: usize) -> usize
-    requires { ⌜ (checkOf (now body) ≡ Stage.Passed) × (n ≡ countOf (now body)) × (at ≤ n) × ((i : ℕ) → i < at → fromOf (now body) i < v) ⌝ }
-    ensures { λ r. ⌜ (r ≤ n) × ((i : ℕ) → i < r → fromOf (now (body .entry)) i < v) ⌝ }
+    requires { ⌜ NotPast (now body) n v at ⌝ }
+    ensures { λ r. ⌜ NotPast (now (body .entry)) n v r ⌝ }
 {
     let mut i = at;
     while i + 8 <= n {
@@ -155,8 +141,8 @@ fn skip(body: &[u8], n: usize, v: usize, at: usize) -> usize
 
 // Where the transitions of v begin, from a place that is not past them.
 fn past(body: &[u8], n: usize, v: usize, at: usize) -> usize
-    requires { ⌜ (checkOf (now body) ≡ Stage.Passed) × (n ≡ countOf (now body)) × (at ≤ n) × ((i : ℕ) → i < at → fromOf (now body) i < v) ⌝ }
-    ensures { λ r. ⌜ Split (now (body .entry)) n v r ⌝ }
+    requires { ⌜ NotPast (now body) n v at ⌝ }
+    ensures { λ r. ⌜ Split (FromBelow (now (body .entry)) v) n r ⌝ }
 {
     let mut i = skip(body, n, v, at);
     while i < n {
@@ -168,23 +154,24 @@ fn past(body: &[u8], n: usize, v: usize, at: usize) -> usize
     i
 }
 
-// For each v to 128, the number of transitions whose from is below v: those of a vertex u stand from entry u up to entry u + 1.
-pub fn rows(body: &[u8]) -> [usize; 129]
+// For each v to 128, the number of transitions whose from is below v: those of a vertex u stand from entry u up to
+// entry u + 1.
+pub fn begins(body: &[u8]) -> [usize; 129]
     requires { ⌜ checkOf (now body) ≡ Stage.Passed ⌝ }
-    ensures { λ r. ⌜ Rows (now (body .entry)) r ⌝ }
+    ensures { λ r. ⌜ Begins (now (body .entry)) r ⌝ }
 {
     let n = count(body);
     let vertices = byte(body, 0);
     // nothing leaves a vertex from V on
-    let mut rows = [n; 129];
+    let mut begins = [n; 129];
     let mut at: usize = 0;
     let mut v: usize = 0;
     while v < vertices {
         at = past(body, n, v, at);
-        rows[v] = at;
+        begins[v] = at;
         v += 1;
     }
-    rows
+    begins
 }
 
 // Where the flag is 1, puts w into set v of a table.
@@ -198,7 +185,7 @@ fn insert_flagged(flag: usize, table: &mut [u64], v: usize, w: usize)
 }
 
 // The transitions whose `keep` byte is 1, as a table: set u has what they enter from u.
-fn kept_table(body: &[u8], keep: &[u8]) -> [u64; 256]
+pub fn kept_table(body: &[u8], keep: &[u8]) -> [u64; 256]
     requires { ⌜ (checkOf (now body) ≡ Stage.Passed) × (countOf (now body) ≤ length (now keep)) ⌝ }
     ensures { λ r. ⌜ Table 128 (Kept (now (body .entry)) (now (keep .entry))) r ⌝ }
 {
@@ -211,42 +198,4 @@ fn kept_table(body: &[u8], keep: &[u8]) -> [u64; 256]
         i += 1;
     }
     table
-}
-
-// The marked vertices as a set: a table of one.
-fn marked_set(marks: &[u8; 128]) -> [u64; 2]
-    requires { ⌜ length (now marks) ≡ 128 ⌝ }
-    ensures { λ r. ⌜ Table 1 (λ (x y : ℕ). getD (now (marks .entry)) y 0 ≡ 1) r ⌝ }
-{
-    let mut set = [0u64; 2];
-    let mut w: usize = 0;
-    while w < 128 {
-        insert_flagged(byte(marks, w), &mut set, 0, w);
-        w += 1;
-    }
-    set
-}
-
-// A set as marks: 1 for what is in it.
-fn set_marks(lo: u64, hi: u64) -> [u8; 128]
-    ensures { λ r. ⌜ Marks lo hi 128 r ⌝ }
-{
-    let mut marks = [0u8; 128];
-    let mut w: usize = 0;
-    while w < 128 {
-        marks[w] = holds(lo, hi, w) as u8;
-        w += 1;
-    }
-    marks
-}
-
-// What the transitions whose `keep` byte is 1 reach from the marked vertices, never leaving `stop`; the end, 0, stops nothing.
-pub fn reach(body: &[u8], keep: &[u8], stop: usize, marks: [u8; 128]) -> [u8; 128]
-    requires { ⌜ (checkOf (now body) ≡ Stage.Passed) × (countOf (now body) ≤ length (now keep)) ⌝ }
-    ensures { λ r. ⌜ Reached (now (body .entry)) (now (keep .entry)) stop marks r ⌝ }
-{
-    let table = kept_table(body, keep);
-    let from = marked_set(&marks);
-    let reached = closure(&table, stop, from[0], from[1]);
-    set_marks(reached[0], reached[1])
 }

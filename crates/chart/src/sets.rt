@@ -1,57 +1,31 @@
-// Reachability along a table of successors: a set of two words for each vertex.
-use bits::but;
-use bits::either;
-use bits::highest;
-use bits::holds;
-use bits::with;
+// Reachability along a table of successors: a set for each vertex.
+use bits::Set;
+use bits::tables::in_row;
+use bits::tables::put_row;
+use bits::tables::row;
 ghost use mathlib.Core.Path.{_≡_};
-ghost use mathlib.Core.Bool.{true, false};
-ghost use Prim.Native.Nat.{ℕ, _^_, _≤_, _<_};
+ghost use mathlib.Core.Bool.{true};
+ghost use Prim.Native.Nat.{_≤_, _<_};
 ghost use lib.ListN.{length};
-ghost use Rattle.chart.specs.Sets.{Closed, Known, turnOf, Turns, FirstTurn, FirstCycle, RowPut, Leads, Finished, Jumps, Words, Added, Jumped, Visited, Taken};
+ghost use Rattle.bits.specs.Sets.{Members};
+ghost use Rattle.theory.specs.Paths.{Avoid};
+ghost use Rattle.chart.specs.Sets.{Leads, FromSet, Known, turnOf, beginOf, endOf, Jumps, Visited, Searched, Cycles};
 
 // What is seen, and those of it whose successors are seen too.
 pub struct Search {
-    pub seen0: u64,
-    pub seen1: u64,
-    pub past0: u64,
-    pub past1: u64,
+    pub seen: Set,
+    pub past: Set,
 }
 
-// The same, and the vertex whose successors are to be seen next. It is past.
-pub struct Move {
-    pub seen0: u64,
-    pub seen1: u64,
-    pub past0: u64,
-    pub past1: u64,
-    pub at: usize,
-}
-
-// A search by its words.
-fn of_words(seen0: u64, seen1: u64, past0: u64, past1: u64) -> Search
-    ensures { λ r. ⌜ Words seen0 seen1 past0 past1 r ⌝ }
-{
-    Search {
-        seen0: seen0,
-        seen1: seen1,
-        past0: past0,
-        past1: past1,
-    }
-}
-
-// Whether the successors of some seen vertex have not been looked at.
-fn unfinished(s: Search) -> bool
-    ensures { λ r. ⌜ (r ≡ true → ¬ Finished s) × (r ≡ false → Finished s) ⌝ }
-{
-    if but(s.seen1, s.past1) != 0 {
-        return true;
-    }
-    but(s.seen0, s.past0) != 0
+// The vertices from one up to another.
+pub struct Span {
+    pub from: usize,
+    pub to: usize,
 }
 
 // Whether all that w reaches is known, and `stop` is neither w nor among it.
 fn jumps(after: &[u64; 256], from: usize, to: usize, stop: usize, w: usize) -> bool
-    requires { ⌜ (length (now after) ≡ 256) × (w < 128) ⌝ }
+    requires { ⌜ (length (now after) ≡ 256) × (stop < 128) × (w < 128) ⌝ }
     ensures { λ r. ⌜ (r ≡ true → Jumps (now (after .entry)) from to stop w) ⌝ }
 {
     if w < from {
@@ -63,147 +37,82 @@ fn jumps(after: &[u64; 256], from: usize, to: usize, stop: usize, w: usize) -> b
     if stop == w {
         return false;
     }
-    !holds(after[2 * w], after[2 * w + 1], stop)
+    !in_row(after, w, stop)
 }
 
-// Set w of a table is seen.
-fn add_row(table: &[u64; 256], s: Search, w: usize) -> Search
-    requires { ⌜ (length (now table) ≡ 256) × (w < 128) ⌝ }
-    ensures { λ r. ⌜ Added (now (table .entry)) w s r ⌝ }
-{
-    of_words(
-        either(s.seen0, table[2 * w]),
-        either(s.seen1, table[2 * w + 1]),
-        s.past0,
-        s.past1,
-    )
-}
-
-// Set w of a table is seen and past.
-fn pass_row(table: &[u64; 256], s: Search, w: usize) -> Search
-    requires { ⌜ (length (now table) ≡ 256) × (w < 128) ⌝ }
-    ensures { λ r. ⌜ Jumped (now (table .entry)) w s r ⌝ }
-{
-    let lo = table[2 * w];
-    let hi = table[2 * w + 1];
-    of_words(
-        either(s.seen0, lo),
-        either(s.seen1, hi),
-        either(s.past0, lo),
-        either(s.past1, hi),
-    )
-}
-
-// The turn of w, which is past: its successors are seen, unless it is `stop`.
-fn leave(next: &[u64; 256], stop: usize, s: Search, w: usize) -> Search
-    requires { ⌜ (length (now next) ≡ 256) × (w < 128) × (s .past0 < 2 ^ 64) × (s .past1 < 2 ^ 64) ⌝ }
-    ensures { λ r. ⌜ Visited (now (next .entry)) stop w s r ⌝ }
-{
-    if w == stop {
-        return s;
-    }
-    add_row(next, s, w)
-}
-
-// The same, but where all that w reaches is known, that is past too.
+// The turn of w, which is past: its successors are seen, unless it is `stop`. Where all that w reaches is known, that
+// is seen and past.
 fn visit(
     next: &[u64; 256],
     after: &[u64; 256],
     from: usize,
     to: usize,
     stop: usize,
-    s: Search,
     w: usize,
+    s: Search,
 ) -> Search
-    requires { ⌜ (length (now next) ≡ 256) × (length (now after) ≡ 256) × Known (now next) (now after) from to × (w < 128) × (s .past0 < 2 ^ 64) × (s .past1 < 2 ^ 64) ⌝ }
+    requires { ⌜ (length (now next) ≡ 256)
+        × (length (now after) ≡ 256)
+        × Known (now next) (now after) from to
+        × (stop < 128)
+        × (w < 128) ⌝ }
     ensures { λ r. ⌜ Visited (now (next .entry)) stop w s r ⌝ }
 {
+    let seen = s.seen;
+    let past = s.past;
     if jumps(after, from, to, stop, w) {
-        return pass_row(after, s, w);
-    }
-    leave(next, stop, s, w)
-}
-
-// The turn of the highest vertex that is seen and not past.
-fn take(s: Search) -> Move
-    requires { ⌜ ¬ Finished s ⌝ }
-    ensures { λ r. ⌜ Taken s r ⌝ }
-{
-    let left = but(s.seen1, s.past1);
-    if left != 0 {
-        let k = highest(left);
-        return Move {
-            seen0: s.seen0,
-            seen1: s.seen1,
-            past0: s.past0,
-            past1: with(s.past1, k),
-            at: 64 + k,
+        let all = row(after, w);
+        return Search {
+            seen: seen.union(all),
+            past: past.union(all),
         };
     }
-    let k = highest(but(s.seen0, s.past0));
-    Move {
-        seen0: s.seen0,
-        seen1: s.seen1,
-        past0: with(s.past0, k),
-        past1: s.past1,
-        at: k,
+    if w == stop {
+        return s;
+    }
+    Search {
+        seen: seen.union(row(next, w)),
+        past,
     }
 }
 
-// What the table `next` reaches from a set, never leaving `stop`; the end, 0, stops nothing.
-pub fn closure(next: &[u64; 256], stop: usize, lo: u64, hi: u64) -> [u64; 2]
-    requires { ⌜ length (now next) ≡ 256 ⌝ }
-    ensures { λ r. ⌜ Closed (now (next .entry)) stop lo hi r ⌝ }
-{
-    let mut s = of_words(lo, hi, 0, 0);
-    while unfinished(s) {
-        let t = take(s);
-        s = leave(
-            next,
-            stop,
-            of_words(t.seen0, t.seen1, t.past0, t.past1),
-            t.at,
-        );
-    }
-    [s.seen0, s.seen1]
-}
-
-// The same. Set x of `after` has, for each x from `from` up to `to`, what x reaches by one step or more.
+// What the table `next` reaches from a set, never leaving `stop`; the end, 0, stops nothing. Set x of `after` has,
+// for each x from `from` up to `to`, what x reaches by one step or more.
 pub fn closure_knowing(
     next: &[u64; 256],
     after: &[u64; 256],
     from: usize,
     to: usize,
     stop: usize,
-    lo: u64,
-    hi: u64,
-) -> [u64; 2]
-    requires { ⌜ (length (now next) ≡ 256) × (length (now after) ≡ 256) × Known (now next) (now after) from to ⌝ }
-    ensures { λ r. ⌜ Closed (now (next .entry)) stop lo hi r ⌝ }
+    set: Set,
+) -> Set
+    requires { ⌜ (length (now next) ≡ 256)
+        × (length (now after) ≡ 256)
+        × Known (now next) (now after) from to
+        × (stop < 128) ⌝ }
+    ensures { λ r. ⌜ Members (FromSet (Avoid stop (Leads (now (next .entry)))) set) r ⌝ }
 {
-    let mut s = of_words(lo, hi, 0, 0);
-    while unfinished(s) {
-        let t = take(s);
-        s = visit(
-            next,
-            after,
-            from,
-            to,
-            stop,
-            of_words(t.seen0, t.seen1, t.past0, t.past1),
-            t.at,
-        );
+    let mut seen = set;
+    let mut past = Set::empty();
+    let mut left = set;
+    while !left.is_empty() {
+        let marked = past.with_highest(left);
+        past = marked.set;
+        let before = Search { seen, past };
+        let s = visit(next, after, from, to, stop, marked.at, before);
+        seen = s.seen;
+        past = s.past;
+        left = seen.difference(past);
     }
-    [s.seen0, s.seen1]
+    seen
 }
 
-// Set w of a table is the set (lo, hi).
-pub fn put_row(table: &mut [u64; 256], w: usize, lo: u64, hi: u64)
-    requires { ⌜ (length (now table) ≡ 256) × (w < 128) ⌝ }
-    ensures { λ _. ⌜ RowPut (now (table .entry)) w lo hi (now (table .exit)) ⌝ }
+// The same where nothing is known.
+pub fn closure(next: &[u64; 256], stop: usize, set: Set) -> Set
+    requires { ⌜ (length (now next) ≡ 256) × (stop < 128) ⌝ }
+    ensures { λ r. ⌜ Members (FromSet (Avoid stop (Leads (now (next .entry)))) set) r ⌝ }
 {
-    table[2 * w] = lo;
-    table[2 * w + 1] = hi;
+    closure_knowing(next, next, 0, 0, stop, set)
 }
 
 // The vertex of turn i: the first n from above, or from below.
@@ -217,57 +126,64 @@ fn turn(i: usize, n: usize, down: bool) -> usize
     i
 }
 
-// The vertices of the first i turns: from the first number up to the second.
-fn turns(i: usize, n: usize, down: bool) -> [usize; 2]
+// The vertices of the first i turns.
+fn turns(i: usize, n: usize, down: bool) -> Span
     requires { ⌜ i ≤ n ⌝ }
-    ensures { λ r. ⌜ Turns i n down r ⌝ }
+    ensures { λ r. ⌜ (r .from ≡ beginOf i n down) × (r .to ≡ endOf i n down) ⌝ }
 {
     if down {
-        return [n - i, n];
+        return Span { from: n - i, to: n };
     }
-    [0, i]
+    Span { from: 0, to: i }
 }
 
-// The first turn whose vertex reaches itself, or n: the first n vertices have a turn each. What each reaches is kept for the next
-// ones; where the answer is n, `after` has it of all of them.
+// The first turn whose vertex reaches itself, or n: the first n vertices have a turn each. What each reaches is kept
+// for the next ones; where the answer is n, `after` has it of all of them.
 fn first_turn(next: &[u64; 256], n: usize, down: bool, after: &mut [u64; 256]) -> usize
     requires { ⌜ (length (now next) ≡ 256) × (n ≤ 128) × (length (now after) ≡ 256) ⌝ }
-    ensures { λ r. ⌜ (length (now (after .exit)) ≡ 256) × FirstTurn (now (next .entry)) n down r × (r ≡ n → Known (now (next .entry)) (now (after .exit)) 0 n) ⌝ }
+    ensures { λ r. ⌜ Searched (now (next .entry)) n down (now (after .entry)) r (now (after .exit)) ⌝ }
 {
     let mut i: usize = 0;
     while i < n {
         let w = turn(i, n, down);
         let known = turns(i, n, down);
-        let set = closure_knowing(
-            next,
-            after,
-            known[0],
-            known[1],
-            w,
-            next[2 * w],
-            next[2 * w + 1],
-        );
-        if holds(set[0], set[1], w) {
+        let set = closure_knowing(next, after, known.from, known.to, w, row(next, w));
+        if set.contains(w) {
             return i;
         }
-        put_row(after, w, set[0], set[1]);
+        put_row(after, w, set);
         i += 1;
     }
     i
 }
 
-// The lowest of the first n vertices that reaches itself, or n: then `after` has what each of them reaches. The turns go from above
-// where vertices lead up, as vertex 1 tells, since more is known that way; a cycle found so need not be that of the lowest vertex.
+// The turns from below: the lowest of the first n vertices that reaches itself, or n. Where there is a cycle `after`
+// has nothing.
+fn cycle_from_below(next: &[u64; 256], n: usize, after: &mut [u64; 256]) -> usize
+    requires { ⌜ (length (now next) ≡ 256) × (n ≤ 128) × (length (now after) ≡ 256) ⌝ }
+    ensures { λ r. ⌜ Cycles (now (next .entry)) n (now (after .entry)) r (now (after .exit)) ⌝ }
+{
+    let r = first_turn(next, n, false, after);
+    if r < n {
+        *after = [0u64; 256];
+    }
+    r
+}
+
+// The lowest of the first n vertices that reaches itself, or n: then `after` has what each of them reaches, and the
+// sets of the others stay. Where there is a cycle `after` has nothing. A cycle found from above need not be that of
+// the lowest vertex.
 pub fn cycle(next: &[u64; 256], n: usize, after: &mut [u64; 256]) -> usize
     requires { ⌜ (length (now next) ≡ 256) × (n ≤ 128) × (length (now after) ≡ 256) ⌝ }
-    ensures { λ r. ⌜ (length (now (after .exit)) ≡ 256) × FirstCycle (now (next .entry)) n r × (r ≡ n → Known (now (next .entry)) (now (after .exit)) 0 n) ⌝ }
+    ensures { λ r. ⌜ Cycles (now (next .entry)) n (now (after .entry)) r (now (after .exit)) ⌝ }
 {
-    let down = (next[2] > 3) | (next[3] != 0);
-    if !down {
-        return first_turn(next, n, false, after);
+    // where vertices lead up, as vertex 1 tells, more is known by turns from above
+    let first = row(next, 1);
+    if (first.lo <= 3) & (first.hi == 0) {
+        return cycle_from_below(next, n, after);
     }
     if first_turn(next, n, true, after) == n {
         return n;
     }
-    first_turn(next, n, false, after)
+    cycle_from_below(next, n, after)
 }

@@ -8,7 +8,7 @@ use lib.ListN.{length, getD}
 use borrow.Author.Tests.{lt-ltb, le-ltb}
 use Rattle.report.specs.declared.Place.the-variants as place
 use Rattle.report.specs.declared.Stage.the-variants.{Passed, Refused}
-use Rattle.expression.specs.Table.{count, lowest, lengthOk, malformed, misused, checkOf, Sized}
+use Rattle.expression.specs.Table.{count, lowestFailing, lengthOk, malformed, misused, checkOf, Sized}
 use Rattle.expression.specs.Uses.{Tallied, onceIn}
 use Rattle.expression.proofs.Table.{sizes←, lowest-same}
 
@@ -21,7 +21,7 @@ module _ (s : List ℕ) (sized : Sized s) (n : ℕ) (all : n ≡ count s) where
   unfolding checkOf
   check-11 k e h = rw (sizes← s sized, lt-ltb (malformed s) (count s) (omega arith), e)
 
-  module _ (good : n ≤ malformed s) (a : List ℕ) (tallied : Tallied s (count s) a) (j : ℕ) (at : j ≡ lowest (onceIn a) 0 (n - 1)) where
+  module _ (good : n ≤ malformed s) (a : List ℕ) (tallied : Tallied s (count s) a) (j : ℕ) (at : j ≡ lowestFailing (onceIn a) 0 (n - 1)) where
     is-misused : j ≡ misused s
     unfolding misused onceIn
     is-misused = at ∙ rw all (lowest-same _ _ 0 (count s - 1) (λ i h. rw (tallied .each i)))

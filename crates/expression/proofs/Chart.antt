@@ -14,8 +14,8 @@ use Rattle.report.specs.declared.Place.the-variants as place
 use Rattle.report.specs.declared.Stage.{Stage}
 use Rattle.report.specs.declared.Stage.the-variants as stage
 use Rattle.report.specs.declared.Written.the-variants as written
-use Rattle.theory.specs.Transitions.{Transition, precedes}
-use Rattle.theory.proofs.Ascending.{Precedes, precedes→, precedes-order, member-at, places-ascend}
+use Rattle.theory.specs.Transitions.{Transition, Precedes, precedes}
+use Rattle.theory.proofs.Ascending.{precedes→, precedes-order, member-at, places-ascend}
 use Rattle.theory.proofs.ExpressionCharts.{transitions-ascend, chart-sound, chart-complete, residual-of-start}
 use Rattle.theory.proofs.Bounds.{transition-bounds}
 use Rattle.expression.specs.Table.{node, count, checkOf}
@@ -69,8 +69,8 @@ module _ (s : List ℕ) (i : ℕ) (h : i < length (chartOf s)) where
   unfolding bodyOf fourOf
   at-from e = let q : 4 * i + 4 ≡ suc (suc (suc (suc (4 * i)))) = omega arith in rw q e
 
-  row-at : transitionAt (bodyOf s) i ≡ getD (chartOf s) i (0, 0, 0)
-  row-at = let r = flat-at (chartOf s) i h in λ j. (at-from (r .0) j, at-field 1 (r .1) j, at-field 2 (r .2) j)
+  body-at : transitionAt (bodyOf s) i ≡ getD (chartOf s) i (0, 0, 0)
+  body-at = let r = flat-at (chartOf s) i h in λ j. (at-from (r .0) j, at-field 1 (r .1) j, at-field 2 (r .2) j)
 
   pad-at : padOf (bodyOf s) i ≡ 0
   pad-at = at-field 3 (flat-at (chartOf s) i h .3)
@@ -79,7 +79,7 @@ module _ (s : List ℕ) (i : ℕ) (h : i < length (chartOf s)) where
 pub body-transitions : (s : List ℕ) → transitionsOf (bodyOf s) ≡ chartOf s
 body-transitions s =
     ext-getD (0, 0, 0) (transitionsOf (bodyOf s)) (chartOf s) (transitions-length (bodyOf s) ∙ body-count s)
-    (λ i h. let g : i < length (chartOf s) = omega (arith, transitions-length (bodyOf s), body-count s) in transitions-at (bodyOf s) i (0, 0, 0) (omega (arith, body-count s)) ∙ row-at s i g)
+    (λ i h. let g : i < length (chartOf s) = omega (arith, transitions-length (bodyOf s), body-count s) in transitions-at (bodyOf s) i (0, 0, 0) (omega (arith, body-count s)) ∙ body-at s i g)
 
 -- THE TRANSITIONS
 pub passed-chart : (s : List ℕ) → checkOf s ≡ stage.Passed → IsChart s (chartOf s)
@@ -136,7 +136,7 @@ key-ascends x y p q (inr (e, inl h)) = omega arith
 key-ascends x y p q (inr (e, inr (f, h))) = omega arith
 
 key-at : (s : List ℕ) (i : ℕ) → i < length (chartOf s) → let x = getD (chartOf s) i (0, 0, 0) in keyAt (bodyOf s) i ≡ 65536 * x .0 + 256 * x .1 + x .2
-key-at s i h = ap (λ (x : Transition). 65536 * x .0 + 256 * x .1 + x .2) (row-at s i h)
+key-at s i h = ap (λ (x : Transition). 65536 * x .0 + 256 * x .1 + x .2) (body-at s i h)
 
 module _ (s : List ℕ) (c : IsChart s (chartOf s)) where
   header-fits : HeaderFits (bodyOf s)
@@ -151,11 +151,11 @@ module _ (s : List ℕ) (c : IsChart s (chartOf s)) where
     whole = omega arith;
   }
 
-  row-fits : (i : ℕ) → i < length (chartOf s) → TransitionFits (bodyOf s) i
-  row-fits i h =
+  transition-fits : (i : ℕ) → i < length (chartOf s) → TransitionFits (bodyOf s) i
+  transition-fits i h =
       let x : Transition = getD (chartOf s) i (0, 0, 0) in
       let b = c .fits x (member-at precedes precedes-order (0, 0, 0) (chartOf s) i h) in
-      let r : transitionAt (bodyOf s) i ≡ x = row-at s i h in
+      let r : transitionAt (bodyOf s) i ≡ x = body-at s i h in
       let v = body-vertices s in
       record {
         from-low = omega (arith, ap (λ (y : Transition). y .0) r);
@@ -165,12 +165,12 @@ module _ (s : List ℕ) (c : IsChart s (chartOf s)) where
         pad-zero = pad-at s i h;
       }
 
-  rows-ascend : Bytes (bodyOf s) → (i j : ℕ) → i < j → j < length (chartOf s) → keyAt (bodyOf s) i < keyAt (bodyOf s) j
-  rows-ascend bytes i j h g =
+  keys-ascend : Bytes (bodyOf s) → (i j : ℕ) → i < j → j < length (chartOf s) → keyAt (bodyOf s) i < keyAt (bodyOf s) j
+  keys-ascend bytes i j h g =
       let k : i < length (chartOf s) = omega arith in
       let x : Transition = getD (chartOf s) i (0, 0, 0) in
       let y : Transition = getD (chartOf s) j (0, 0, 0) in
-      let r : transitionAt (bodyOf s) i ≡ x = row-at s i k in
+      let r : transitionAt (bodyOf s) i ≡ x = body-at s i k in
       rw (key-at s i k, key-at s j g) (key-ascends x y
       (omega (arith, ap (λ (z : Transition). z .1) r, bytes (4 * i + 4 + 1)))
       (omega (arith, ap (λ (z : Transition). z .2) r, bytes (4 * i + 4 + 2)))
@@ -182,8 +182,8 @@ body-passes s bytes e =
     let n = body-count s in
     passes (bodyOf s) (record {
       header = header-fits s c;
-      each = λ i h. row-fits s c i (omega arith);
-      ascending = λ i j h g. rows-ascend s c (passed-bytes s bytes e) i j h (omega arith);
+      each = λ i h. transition-fits s c i (omega arith);
+      ascending = λ i j h g. keys-ascend s c (passed-bytes s bytes e) i j h (omega arith);
     })
 
 -- THE ANSWER. A length is the body's, which the lent bytes then begin with; what stood past it is kept

@@ -1,23 +1,16 @@
--- The first actions of a node, from those of its operands; and the marks of them.
+-- The first actions of a node, from those of its operands.
 use Prim.Native.Nat.{ℕ, _<_, _≤_}
-use mathlib.Core.Path.{_≡_, refl, ap, sym, _∙_}
+use mathlib.Core.Path.{_≡_, refl, _∙_}
 use mathlib.Core.Bool.{Bool, true, false, cond}
 use mathlib.Core.List.{List, [], _∷_, _++_}
 use native.Mathlib.Omega.{arith}
 use lib.Dec.{eqb}
-use lib.ListN.{getD, set}
 use borrow.Author.Tests.{eq-eqb, ne-eqb}
 use Rattle.theory.specs.Nodes.{op-sum, op-product, op-star, dead, leaf, join, first}
 use Rattle.theory.proofs.Down.{first-at}
 use Rattle.expression.specs.Table.{kindOf, actionOf, leftOf, rightOf, node, count, opOf, WellFormed}
-use Rattle.expression.specs.Sweep.{marked}
 use Rattle.expression.proofs.Table.{tree}
 use Rattle.expression.proofs.View.{at-dead, at-leaf, at-bin}
-
-marked-append : (ranks js is a : List ℕ) → marked ranks (js ++ is) a ≡ marked ranks is (marked ranks js a)
-unfolding marked
-marked-append ranks [] is a = refl
-marked-append ranks (j ∷ js) is a = marked-append ranks js is (set a (getD ranks j 0) 1)
 
 module _ (s : List ℕ) (w : WellFormed s) (k : ℕ) (h : k < count s) where
   pub first-dead : kindOf s k ≡ 0 → first (node s) k ≡ []
@@ -39,21 +32,3 @@ module _ (s : List ℕ) (w : WellFormed s) (k : ℕ) (h : k < count s) where
       go a b true y e = refl
       go a b false true e = absurd (let z : _≡_ {A = ℕ} 0 1 = cc in omega arith)
       go a b false false e = refl
-
-  module _ (ranks : List ℕ) where
-    pub mark-dead : (a : List ℕ) → kindOf s k ≡ 0 → a ≡ marked ranks (first (node s) k) a
-    unfolding marked
-    mark-dead a e = rw (first-dead e)
-
-    pub mark-leaf : (a : List ℕ) → kindOf s k ≡ 1 → set a (getD ranks k 0) 1 ≡ marked ranks (first (node s) k) a
-    unfolding marked
-    mark-leaf a e = rw (first-own e)
-
-    pub mark-product : (a b : List ℕ) (l : ℕ) → kindOf s k ≡ 3 → l ≡ leftOf s k → b ≡ marked ranks (first (node s) l) a → b ≡ marked ranks (first (node s) k) a
-    mark-product a b l e el eb = rw (first-left e, ← el) eb
-
-    pub mark-both : (a b d : List ℕ) (l r : ℕ) → 2 ≤ kindOf s k → (kindOf s k ≡ 3 → ⊥) → l ≡ leftOf s k → r ≡ rightOf s k
-        → b ≡ marked ranks (first (node s) l) a → d ≡ marked ranks (first (node s) r) b → d ≡ marked ranks (first (node s) k) a
-    mark-both a b d l r q n el er eb ed =
-        ed ∙ ap (marked ranks (first (node s) r)) eb ∙ sym (marked-append ranks (first (node s) l) (first (node s) r) a)
-        ∙ ap (λ (x : List ℕ). marked ranks x a) (rw (el, er) (sym (first-both q n)))

@@ -5,10 +5,11 @@ pub mod Uses
 pub mod Answers
 pub mod Aims
 pub mod KeyLaws
+pub mod Under
 pub mod Firsts
-pub mod Rows
-pub mod Sweeps
+pub mod WordLaws
+pub mod Stores
 pub mod Bodies
 pub mod Chart
-pub mod WordLaws
 pub mod Numbers
+pub mod Listings

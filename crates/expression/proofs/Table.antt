@@ -2,9 +2,8 @@
 use Prim.Native.Nat.{ℕ, zero, suc, _+_, _-_, _%_, _<_, _≤_}
 use mathlib.Core.Path.{_≡_, refl, sym, _∙_, ap, subst}
 use mathlib.Core.Bool.{Bool, true, false, cond, _&&_, not, false≢true}
-use mathlib.Core.Logic.{⊎-elim}
 use mathlib.Core.List.{List}
-use native.Mathlib.Nat.{eq-or-lt-of-le, sub-zero}
+use native.Mathlib.Nat.{sub-zero}
 use native.Mathlib.Numerals.{add-one}
 use native.Mathlib.Omega.{arith}
 use lib.Dec.{eqb, ltb, leb}
@@ -18,7 +17,7 @@ use Rattle.theory.specs.Least.{Least}
 use Rattle.theory.specs.Tests as tests
 use Rattle.theory.proofs.Search.{least-one}
 use Rattle.theory.proofs.Tests.{lowest-stops}
-use Rattle.expression.specs.Table.{kindOf, actionOf, leftOf, rightOf, branch, parse, node, isGood, count, lowest, lengthOk, nodeOk, malformed, usesOf, usedOnce, misused, checkOf, Sized, NodeAt, WellFormed, Checked, passed, ill-sized, malformed-at, misused-at}
+use Rattle.expression.specs.Table.{kindOf, actionOf, leftOf, rightOf, branch, parse, node, isGood, count, lowestFailing, lengthOk, nodeOk, malformed, usesOf, usedOnce, misused, checkOf, Sized, NodeAt, WellFormed, NodesChecked, passed, ill-sized, malformed-at, misused-at}
 
 -- operands are lower than their node
 abbrev Low : ℕ → Node → Type 0
@@ -54,51 +53,43 @@ node-low s k o l r e = subst (Low k) e (parse-low k (kindOf s k) (actionOf s k) 
 
 -- the lowest number at which a test fails
 module _ (ok : ℕ → Bool) where
-  abbrev Lowest : ℕ → ℕ → ℕ → Type 0
-  Lowest i m r = (i ≤ r) × (r ≤ i + m) × (r < i + m → ok r ≡ false) × ((k : ℕ) → i ≤ k → k < r → ok k ≡ true)
+  lowest-law : (i m : ℕ) → tests.Stops (λ k. not (ok k)) i m (lowestFailing ok i m)
+  unfolding lowestFailing
+  lowest-law i m = lowest-stops (λ k. not (ok k)) i m
 
-  lowest-law : (i m : ℕ) → Lowest i m (lowest ok i m)
-  unfolding lowest
-  lowest-law i m =
-      let r = lowest-stops (λ k. not (ok k)) i m in
-      (r .from, r .within, (λ h. not-true _ (r .passes h)), (λ k h q. not-false _ (r .below k h q)))
-
-  pub lowest-step : (i n : ℕ) → i < n → ok i ≡ true → lowest ok i (n - i) ≡ lowest ok (i + 1) (n - (i + 1))
-  unfolding lowest tests.lowest
+  pub lowest-step : (i n : ℕ) → i < n → ok i ≡ true → lowestFailing ok i (n - i) ≡ lowestFailing ok (i + 1) (n - (i + 1))
+  unfolding lowestFailing tests.lowest
   lowest-step i n h e = let r : n - i ≡ suc (n - (i + 1)) = omega arith in rw (r, add-one i, e)
 
-  pub lowest-stop : (i n : ℕ) → i < n → ok i ≡ false → lowest ok i (n - i) ≡ i
-  unfolding lowest tests.lowest
+  pub lowest-stop : (i n : ℕ) → i < n → ok i ≡ false → lowestFailing ok i (n - i) ≡ i
+  unfolding lowestFailing tests.lowest
   lowest-stop i n h e = let r : n - i ≡ suc (n - (i + 1)) = omega arith in rw (r, e)
 
-  pub lowest-end : (i n : ℕ) → n ≤ i → lowest ok i (n - i) ≡ i
-  unfolding lowest tests.lowest
+  pub lowest-end : (i n : ℕ) → n ≤ i → lowestFailing ok i (n - i) ≡ i
+  unfolding lowestFailing tests.lowest
   lowest-end i n h = let r : n - i ≡ 0 = omega arith in rw r
 
-pub malformed-start : (s : List ℕ) (n : ℕ) → n ≡ count s → lowest (nodeOk s) 0 (n - 0) ≡ malformed s
+pub malformed-start : (s : List ℕ) (n : ℕ) → n ≡ count s → lowestFailing (nodeOk s) 0 (n - 0) ≡ malformed s
 unfolding malformed
 malformed-start s n e = rw (sub-zero n, e)
 
-pub lowest-same : (f g : ℕ → Bool) (i m : ℕ) → ((k : ℕ) → k < i + m → f k ≡ g k) → lowest f i m ≡ lowest g i m
-unfolding lowest tests.lowest
+pub lowest-same : (f g : ℕ → Bool) (i m : ℕ) → ((k : ℕ) → k < i + m → f k ≡ g k) → lowestFailing f i m ≡ lowestFailing g i m
+unfolding lowestFailing tests.lowest
 lowest-same f g i zero h = refl
 lowest-same f g i (suc m) h = rw (h i (omega arith), lowest-same f g (suc i) m (λ k q. h k (omega arith)))
 
-all-pass : (ok : ℕ → Bool) (m : ℕ) → ((k : ℕ) → k < m → ok k ≡ true) → m ≤ lowest ok 0 m
-all-pass ok m h = go (ltb (lowest ok 0 m) m) refl
+all-pass : (ok : ℕ → Bool) (m : ℕ) → ((k : ℕ) → k < m → ok k ≡ true) → m ≤ lowestFailing ok 0 m
+all-pass ok m h = go (ltb (lowestFailing ok 0 m) m) refl
   where
-    l : Lowest ok 0 m (lowest ok 0 m)
-    l = lowest-law ok 0 m
-
-    go : (b : Bool) → ltb (lowest ok 0 m) m ≡ b → m ≤ lowest ok 0 m
+    go : (b : Bool) → ltb (lowestFailing ok 0 m) m ≡ b → m ≤ lowestFailing ok 0 m
     go false e = ltb-false _ _ e
     go true e =
         let q = ltb-true _ _ e in
-        absurd (false≢true (sym (l .2 (omega arith)) ∙ h _ q))
+        absurd (false≢true (sym (not-true _ (lowest-law ok 0 m .passes (omega arith))) ∙ h _ q))
 
 pub all-good : (s : List ℕ) (n : ℕ) → n ≡ count s → n ≤ malformed s → (k : ℕ) → k < count s → isGood (node s k) ≡ true
 unfolding malformed
-all-good s n e h k q = lowest-law (nodeOk s) 0 (count s) .3 k (omega arith) (omega arith)
+all-good s n e h k q = not-false _ (lowest-law (nodeOk s) 0 (count s) .below k (omega arith) (omega arith))
 
 -- 10
 both : (a b c : Bool) → a && b && c ≡ true → (a ≡ true) × (b ≡ true) × (c ≡ true)
@@ -125,34 +116,34 @@ module _ (s : List ℕ) where
       rw (lt-ltb 0 (length s) (omega arith), le-leb (length s) 508 (omega arith), eq-eqb (length s % 4) 0 (omega arith))
 
   -- each answer of the checks, with what it says
-  pub checked : Checked s (checkOf s)
+  pub checked : NodesChecked s (checkOf s)
   unfolding checkOf malformed misused
   checked = at-10 (lengthOk s) refl
     where
       at-12 : (b : Bool) → ltb (misused s) (count s - 1) ≡ b → Sized s → ((k : ℕ) → k < count s → isGood (node s k) ≡ true)
-          → Checked s (cond b (Refused (place.NodeUses (misused s) (usesOf s (misused s)))) Passed)
+          → NodesChecked s (cond b (Refused (place.NodeUses (misused s) (usesOf s (misused s)))) Passed)
       at-12 true e z g =
           let l = lowest-law (usedOnce s) 0 (count s - 1) in
           let h : misused s < count s - 1 = ltb-true _ _ e in
-          misused-at (misused s) z g (omega arith) (eqb-false _ 1 (l .2 (omega arith))) (λ j q. eqb-true _ 1 (l .3 j (omega arith) q))
+          misused-at (misused s) z g (omega arith) (eqb-false _ 1 (not-true _ (l .passes (omega arith)))) (λ j q. eqb-true _ 1 (not-false _ (l .below j (omega arith) q)))
       at-12 false e z g =
           let l = lowest-law (usedOnce s) 0 (count s - 1) in
           let h : count s - 1 ≤ misused s = ltb-false _ _ e in
-          passed (record { sized = z; good = g; once = λ j q. eqb-true _ 1 (l .3 j (omega arith) (omega arith)) })
+          passed (record { sized = z; good = g; once = λ j q. eqb-true _ 1 (not-false _ (l .below j (omega arith) (omega arith))) })
 
       at-11 : (b : Bool) → ltb (malformed s) (count s) ≡ b → Sized s
-          → Checked s (cond b (Refused (place.Node (malformed s))) (cond (ltb (misused s) (count s - 1)) (Refused (place.NodeUses (misused s) (usesOf s (misused s)))) Passed))
+          → NodesChecked s (cond b (Refused (place.Node (malformed s))) (cond (ltb (misused s) (count s - 1)) (Refused (place.NodeUses (misused s) (usesOf s (misused s)))) Passed))
       at-11 true e z =
           let l = lowest-law (nodeOk s) 0 (count s) in
           let h : malformed s < count s = ltb-true _ _ e in
-          malformed-at (malformed s) z h (l .2 (omega arith)) (λ k q. l .3 k (omega arith) q)
+          malformed-at (malformed s) z h (not-true _ (l .passes (omega arith))) (λ k q. not-false _ (l .below k (omega arith) q))
       at-11 false e z =
           let l = lowest-law (nodeOk s) 0 (count s) in
           let h : count s ≤ malformed s = ltb-false _ _ e in
-          at-12 (ltb (misused s) (count s - 1)) refl z (λ k q. l .3 k (omega arith) (omega arith))
+          at-12 (ltb (misused s) (count s - 1)) refl z (λ k q. not-false _ (l .below k (omega arith) (omega arith)))
 
       at-10 : (b : Bool) → lengthOk s ≡ b
-          → Checked s (cond b
+          → NodesChecked s (cond b
           (cond (ltb (malformed s) (count s)) (Refused (place.Node (malformed s)))
           (cond (ltb (misused s) (count s - 1)) (Refused (place.NodeUses (misused s) (usesOf s (misused s)))) Passed))
           (Refused (place.NodesLength (length s))))
@@ -162,7 +153,7 @@ module _ (s : List ℕ) where
   pub passed→well-formed : checkOf s ≡ Passed → WellFormed s
   passed→well-formed e = go (checkOf s) checked e
     where
-      go : (g : Stage) → Checked s g → g ≡ Passed → WellFormed s
+      go : (g : Stage) → NodesChecked s g → g ≡ Passed → WellFormed s
       go _ (passed w) q = w
       go _ (ill-sized f) q = absurd (let z : _≡_ {A = ℕ} 0 1 = cc in omega arith)
       go _ (malformed-at p a b d f) q = absurd (let z : _≡_ {A = ℕ} 0 1 = cc in omega arith)
@@ -186,7 +177,7 @@ lowest-uses : (s : List ℕ) {p : ℕ} → (usesOf s p ≡ 1 → ⊥) → ((j : 
 lowest-uses s e low = record { holds = e; lowest = λ j h q. q (low j h) }
 
 module _ {s : List ℕ} where
-  one-check : {a b : Stage} → Checked s a → Checked s b → a ≡ b
+  one-check : {a b : Stage} → NodesChecked s a → NodesChecked s b → a ≡ b
   one-check (passed w) (passed v) = refl
   one-check (passed w) (ill-sized h) = absurd (h (w .sized))
   one-check (passed w) (malformed-at p z h e low) = absurd (false≢true (sym e ∙ w .good p h))
@@ -205,7 +196,7 @@ module _ {s : List ℕ} where
   one-check (misused-at q y f i d below) (misused-at p z g h e low) = ap (λ (x : ℕ). Refused (place.NodeUses x (usesOf s x))) (least-one (lowest-uses s d below) (lowest-uses s e low))
 
   -- so that what an answer says is said exactly where it is the answer
-  pub checked-is : {a : Stage} → Checked s a → a ≡ checkOf s
+  pub checked-is : {a : Stage} → NodesChecked s a → a ≡ checkOf s
   checked-is c = one-check c (checked s)
 
 pub tree : (s : List ℕ) → WellFormed s → Tree (node s) (count s)

@@ -1,17 +1,21 @@
--- A node's word from those of its operands, and one word more.
-use Prim.Native.Nat.{ℕ, suc, _+_, _/_, _%_, _^_, _<_, _≤_}
+-- A node's word from those of its operands, and the words of all nodes below one.
+use Prim.Native.Nat.{ℕ, zero, suc, _+_, _-_, _/_, _%_, _^_, _<_, _≤_}
 use mathlib.Core.Path.{_≡_, refl, sym, _∙_}
 use mathlib.Core.Logic.{_⊎_, inl, inr, _↔_, ⊎-elim}
 use mathlib.Core.List.{List, [], _∷_, _++_, List·Memᴰ·head, List·Memᴰ·not-nil, List·Memᴰ·eq-of-singleton, List·Memᴰ·append-cases, Memᴰ·append-left, Memᴰ·append-right}
-use native.Mathlib.Nat.{zero-div, eq-or-lt-of-le, le-of-suc-le-suc}
+use native.Mathlib.Nat.{zero-div}
+use native.Mathlib.Decide.{ℕ-discrete}
 use native.Mathlib.Numerals.{add-one}
 use native.Mathlib.Omega.{arith}
-use lib.ListN.{getD, set, replicate, length-set, length-replicate}
+use lib.ListN.{length, getD, set, replicate, length-set, length-replicate}
 use lib.Seq.{getD-set-same, getD-set-other}
 use Rattle.bits.specs.Words.{On, With}
-use Rattle.theory.specs.Nodes.{first}
-use Rattle.expression.specs.Table.{kindOf, leftOf, rightOf, node, count, WellFormed}
-use Rattle.expression.specs.Words.{RanksOf, Worded}
+use Rattle.theory.specs.Nodes.{Op, dead, leaf, bin, first}
+use Rattle.expression.specs.Table.{kindOf, leftOf, rightOf, node, count, opOf, WellFormed}
+use Rattle.expression.specs.Words.{RanksOf, JoinedWord, Under, itself, by-left, by-right, Filled, Worded}
+use Rattle.expression.proofs.Table.{tree}
+use Rattle.expression.proofs.View.{at-dead, at-leaf, at-bin}
+use Rattle.expression.proofs.Under.{under-le, all-under}
 use Rattle.expression.proofs.Aims.{zeros}
 use Rattle.expression.proofs.Firsts.{first-dead, first-own, first-left, first-both}
 
@@ -51,38 +55,114 @@ module _ (s : List ℕ) (w : WellFormed s) (k : ℕ) (h : k < count s) (ranks : 
   pub word-own : (x : ℕ) → kindOf s k ≡ 1 → With 0 (getD ranks k 0) x → RanksOf ranks (first (node s) k) x
   word-own x e W = rw (first-own s w k h e) (one ranks k x W)
 
-  module _ (words : List ℕ) (i : Worded s ranks k words) where
-    operand : (j : ℕ) → j < k → RanksOf ranks (first (node s) j) (getD words (j + 1) 0)
-    operand j q = rw (add-one j) (i .each j q)
+  word-joined : (a b x : ℕ) → 2 ≤ kindOf s k → RanksOf ranks (first (node s) (leftOf s k)) a → RanksOf ranks (first (node s) (rightOf s k)) b
+      → JoinedWord (kindOf s k) a b x → RanksOf ranks (first (node s) k) x
+  word-joined a b x q p r j = elim (ℕ-discrete (kindOf s k) 3) [
+    | yes e ↦ rw (first-left s w k h e, j .left e) p
+    | no d ↦ rw (first-both s w k h q d) (both ranks (first (node s) (leftOf s k)) (first (node s) (rightOf s k)) a b x p r (j .both d))
+  ]
 
-    pub word-left : (l : ℕ) → kindOf s k ≡ 3 → l ≡ leftOf s k → l < k → RanksOf ranks (first (node s) k) (getD words (l + 1) 0)
-    word-left l e el q = rw (first-left s w k h e, ← el) (operand l q)
-
-    pub word-both : (l r x : ℕ) → 2 ≤ kindOf s k → (kindOf s k ≡ 3 → ⊥) → l ≡ leftOf s k → r ≡ rightOf s k → l < k → r < k
-        → ((j : ℕ) → On x j ↔ (On (getD words (l + 1) 0) j ⊎ On (getD words (r + 1) 0) j)) → RanksOf ranks (first (node s) k) x
-    word-both l r x e n el er ql qr f =
-        rw (first-both s w k h e n, ← el, ← er) (both ranks (first (node s) l) (first (node s) r) (getD words (l + 1) 0) (getD words (r + 1) 0) x (operand l ql) (operand r qr) f)
-
--- ONE WORD MORE
-module _ (s ranks : List ℕ) where
-  pub worded-start : Worded s ranks 0 (replicate 128 0)
-  worded-start = record {
-    long = length-replicate {A = ℕ} 128 0;
-    each = λ j h. absurd (omega arith);
-    end = zeros 128 0;
-    rest = λ u h. zeros 128 u;
-  }
-
-  pub worded-next : (k : ℕ) (words : List ℕ) (x : ℕ) → k < 127 → Worded s ranks k words → RanksOf ranks (first (node s) k) x → Worded s ranks (k + 1) (set words (k + 1) x)
-  worded-next k words x h i r = rw (add-one k) (record {
-    long = simp length-set (i .long);
-    each = λ j q. ⊎-elim
-        (λ (e : j ≡ k). rw (e, getD-set-same words (suc k) x 0 (let l = i .long in omega arith)) r)
-        (λ (d : j < k). rw (other (suc j) (λ z. omega arith)) (i .each j d))
-        (eq-or-lt-of-le (le-of-suc-le-suc q));
-    end = other 0 (λ z. omega arith) ∙ i .end;
-    rest = λ u q. other u (λ z. omega arith) ∙ i .rest u (omega arith);
-  })
+  -- FILLING. Below a node without operands is no other
+  alone : kindOf s k < 2 → (o : Op) (l r : ℕ) → node s k ≡ bin o l r → ⊥
+  alone q o l r e = go (kindOf s k) refl q
     where
-      other : (u : ℕ) → (u ≡ suc k → ⊥) → getD (set words (suc k) x) u 0 ≡ getD words u 0
-      other u d = getD-set-other words (suc k) u x 0 d
+      go : (d : ℕ) → kindOf s k ≡ d → d < 2 → ⊥
+      go zero f i = apart (sym (at-dead s k (w .good k h) f) ∙ e)
+        where
+          apart : dead ≡ bin o l r → ⊥
+          apart z = let y : _≡_ {A = ℕ} 0 1 = cc in omega arith
+      go (suc zero) f i = apart (sym (at-leaf s k (w .good k h) f) ∙ e)
+        where
+          apart : {a : ℕ} → leaf a ≡ bin o l r → ⊥
+          apart z = let y : _≡_ {A = ℕ} 0 1 = cc in omega arith
+      go (suc (suc d)) f i = omega arith
+
+  module _ (a : List ℕ) (long : length a ≡ 128) where
+    at-own : (b : List ℕ) (x : ℕ) → length b ≡ length a → getD (set b (suc k) x) (suc k) 0 ≡ x
+    at-own b x e = getD-set-same b (suc k) x 0 (let f = w .sized .few in omega arith)
+
+    pub filled-leaf : (x : ℕ) → kindOf s k < 2 → RanksOf ranks (first (node s) k) x → Filled s ranks k a (set a (k + 1) x) x
+    filled-leaf x q p = rw (add-one k) (record { long = length-set a (suc k) x; own = p; each = λ j u. let e = only u in rw (e, at-own a x refl) p; kept = kept })
+      where
+        only : {j : ℕ} → Under (node s) k j → j ≡ k
+        only itself = refl
+        only (by-left e u) = absurd (alone q _ _ _ e)
+        only (by-right e u) = absurd (alone q _ _ _ e)
+
+        kept : (u : ℕ) → (getD (set a (suc k) x) u 0 ≡ getD a u 0) ⊎ ((j : ℕ) × Under (node s) k j × (u ≡ suc j))
+        kept u = elim (ℕ-discrete u (suc k)) [
+          | yes e ↦ inr (k, itself, e)
+          | no d ↦ inl (getD-set-other a (suc k) u x 0 d)
+        ]
+
+    pub filled-both : (l r x y z : ℕ) (b c : List ℕ) → 2 ≤ kindOf s k → l ≡ leftOf s k → r ≡ rightOf s k → Filled s ranks l a b x → Filled s ranks r b c y
+        → JoinedWord (kindOf s k) x y z → Filled s ranks k a (set c (k + 1) z) z
+    filled-both l r x y z b c q el er f g j =
+        rw (add-one k) (record { long = length-set c (suc k) z ∙ g .long ∙ f .long; own = own; each = λ i u. each u; kept = kept })
+      where
+        is : node s k ≡ bin (opOf (kindOf s k)) l r
+        is = rw (el, er) (at-bin s k (w .good k h) q)
+
+        own : RanksOf ranks (first (node s) k) z
+        own = word-joined x y z q (rw el at (f .own)) (rw er at (g .own)) j
+
+        -- what the left operand's words are when the right one's have come
+        stays : (i : ℕ) → Under (node s) l i → RanksOf ranks (first (node s) i) (getD c (suc i) 0)
+        stays i u = ⊎-elim
+            (λ (e : getD c (suc i) 0 ≡ getD b (suc i) 0). rw e (f .each i u))
+            (λ (v : (t : ℕ) × Under (node s) r t × (suc i ≡ suc t)). let e : i ≡ v .0 = omega (arith, v .2) in rw e (g .each (v .0) (v .1)))
+            (g .kept (suc i))
+
+        operand-of : (o : Op) (p t : ℕ) → node s k ≡ bin o p t → (p ≡ l) × (t ≡ r)
+        operand-of o p t e = go (sym e ∙ is)
+          where
+            go : {n : Op} → bin o p t ≡ bin n l r → (p ≡ l) × (t ≡ r)
+            go d = (cc, cc)
+
+        other : (i : ℕ) → i < k → getD (set c (suc k) z) (suc i) 0 ≡ getD c (suc i) 0
+        other i d = getD-set-other c (suc k) (suc i) z 0 (λ e. omega arith)
+
+        low : (l < k) × (r < k)
+        low = tree s w .low k (opOf (kindOf s k)) l r h is
+
+        at-left : (i : ℕ) → Under (node s) l i → RanksOf ranks (first (node s) i) (getD (set c (suc k) z) (suc i) 0)
+        at-left i u =
+            let b = low .0 in
+            rw (other i (omega (arith, b, under-le (node s) (count s) (tree s w) (omega (arith, b)) u))) (stays i u)
+
+        at-right : (i : ℕ) → Under (node s) r i → RanksOf ranks (first (node s) i) (getD (set c (suc k) z) (suc i) 0)
+        at-right i u =
+            let b = low .1 in
+            rw (other i (omega (arith, b, under-le (node s) (count s) (tree s w) (omega (arith, b)) u))) (g .each i u)
+
+        each : {i : ℕ} → Under (node s) k i → RanksOf ranks (first (node s) i) (getD (set c (suc k) z) (suc i) 0)
+        each itself = rw (at-own c z (g .long ∙ f .long)) own
+        each (by-left e u) = at-left _ (rw (operand-of _ _ _ e .0) at u)
+        each (by-right e u) = at-right _ (rw (operand-of _ _ _ e .1) at u)
+
+        kept : (u : ℕ) → (getD (set c (suc k) z) u 0 ≡ getD a u 0) ⊎ ((i : ℕ) × Under (node s) k i × (u ≡ suc i))
+        kept u = elim (ℕ-discrete u (suc k)) [
+          | yes e ↦ inr (k, itself, e)
+          | no d ↦ ⊎-elim
+              (λ (e : getD c u 0 ≡ getD b u 0). ⊎-elim
+              (λ (t : getD b u 0 ≡ getD a u 0). inl (getD-set-other c (suc k) u z 0 d ∙ e ∙ t))
+              (λ v. inr (v .0, by-left is (v .1), v .2))
+              (f .kept u))
+              (λ v. inr (v .0, by-right is (v .1), v .2))
+              (g .kept u)
+        ]
+
+-- ALL WORDS, from no bits
+pub filled-all : (s : List ℕ) → WellFormed s → (ranks b : List ℕ) (n x : ℕ) → n ≡ count s → Filled s ranks (n - 1) (replicate 128 0) b x → Worded s ranks b
+filled-all s w ranks b n x e f = record {
+  long = f .long ∙ length-replicate {A = ℕ} 128 0;
+  each = λ j h. f .each j (rw e (all-under (node s) (count s) (tree s w) j h));
+  end = outside 0 (λ j h q. omega arith);
+  rest = λ u h. outside u (λ j i q. omega arith);
+}
+  where
+    outside : (u : ℕ) → ((j : ℕ) → j < count s → u ≡ suc j → ⊥) → getD b u 0 ≡ 0
+    outside u d = ⊎-elim
+        (λ (q : getD b u 0 ≡ getD (replicate {A = ℕ} 128 0) u 0). q ∙ zeros 128 u)
+        (λ v. absurd (d (v .0) (omega (arith, w .sized .some, under-le (node s) (count s) (tree s w) (omega (arith, w .sized .some)) (v .1))) (v .2)))
+        (f .kept u)

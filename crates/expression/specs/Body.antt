@@ -35,7 +35,8 @@ bodyOf s = headOf (count s) (length (chartOf s)) ++ flat (chartOf s)
 -- 54, where the checks of the nodes have passed
 abbrev pub writtenAfter : Stage → ℕ → ℕ → Written
 writtenAfter (stage.Refused p) needed n = written.Refused p
-writtenAfter stage.Passed needed n = cond (ltb n needed) (written.Refused (place.OutputLength needed)) (written.Length needed)
+writtenAfter stage.Passed needed n =
+    cond (ltb n needed) (written.Refused (place.OutputLength needed)) (written.Length needed)
 
 -- the answer for n lent bytes
 unfoldable pub writtenOf : List ℕ → ℕ → Written

@@ -2,10 +2,10 @@
 pub mod Table
 pub mod Body
 pub mod Charts
--- The code's way there: the uses, where each node leads, the keys of the leaves and their ranks, the transitions in order,
--- and the first actions as words.
+-- The code's way there: the uses, where each node leads, the keys of the leaves and their ranks, the first actions as
+-- words, and the transitions in order.
 pub mod Uses
 pub mod Targets
 pub mod Keys
-pub mod Sweep
 pub mod Words
+pub mod Listing

@@ -56,8 +56,8 @@ unfoldable pub count : List ℕ → ℕ
 count s = length s / 4
 
 -- of the m numbers from i on, the lowest at which a test fails, or the next after them
-unfoldable pub lowest : (ℕ → Bool) → ℕ → ℕ → ℕ
-lowest ok i m = tests.lowest (λ k. not (ok k)) i m
+unfoldable pub lowestFailing : (ℕ → Bool) → ℕ → ℕ → ℕ
+lowestFailing ok i m = tests.lowest (λ k. not (ok k)) i m
 
 -- 10: 1 to 127 nodes of four bytes
 abbrev pub lengthOk : List ℕ → Bool
@@ -68,7 +68,7 @@ abbrev pub nodeOk : List ℕ → ℕ → Bool
 nodeOk s k = isGood (node s k)
 
 unfoldable pub malformed : List ℕ → ℕ
-malformed s = lowest (nodeOk s) 0 (count s)
+malformed s = lowestFailing (nodeOk s) 0 (count s)
 
 -- how often node j is an operand of the nodes below k, and of all
 abbrev pub usesBelow : List ℕ → ℕ → ℕ → ℕ
@@ -82,7 +82,7 @@ abbrev pub usedOnce : List ℕ → ℕ → Bool
 usedOnce s j = eqb (usesOf s j) 1
 
 unfoldable pub misused : List ℕ → ℕ
-misused s = lowest (usedOnce s) 0 (count s - 1)
+misused s = lowestFailing (usedOnce s) 0 (count s - 1)
 
 unfoldable pub checkOf : List ℕ → Stage
 checkOf s =
@@ -111,11 +111,11 @@ pub record WellFormed (s : List ℕ) : Type 0 where
   pub once : (j : ℕ) → suc j < count s → uses (node s) (count s) j ≡ 1
 
 -- what each answer of the checks says
-pub data Checked (s : List ℕ) : Stage → Type 0 where
-  passed : WellFormed s → Checked s Passed
-  ill-sized : (Sized s → ⊥) → Checked s (Refused (place.NodesLength (length s)))
-  malformed-at : (p : ℕ) → Sized s → p < count s → isGood (node s p) ≡ false → ((k : ℕ) → k < p → isGood (node s k) ≡ true)
-      → Checked s (Refused (place.Node p))
+pub data NodesChecked (s : List ℕ) : Stage → Type 0 where
+  passed : WellFormed s → NodesChecked s Passed
+  ill-sized : (Sized s → ⊥) → NodesChecked s (Refused (place.NodesLength (length s)))
+  malformed-at : (p : ℕ) → Sized s → p < count s → isGood (node s p) ≡ false
+      → ((k : ℕ) → k < p → isGood (node s k) ≡ true) → NodesChecked s (Refused (place.Node p))
   misused-at : (p : ℕ) → Sized s → ((k : ℕ) → k < count s → isGood (node s k) ≡ true)
       → suc p < count s → (usesOf s p ≡ 1 → ⊥) → ((j : ℕ) → j < p → usesOf s j ≡ 1)
-      → Checked s (Refused (place.NodeUses p (usesOf s p)))
+      → NodesChecked s (Refused (place.NodeUses p (usesOf s p)))

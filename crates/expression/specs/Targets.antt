@@ -1,5 +1,5 @@
 -- Where every node leads, from the root down: the climb of document 01, each node's answer taken from its parent's.
-use Prim.Native.Nat.{ℕ, _+_, _-_, _<_}
+use Prim.Native.Nat.{ℕ, _+_, _<_}
 use mathlib.Core.Path.{_≡_}
 use mathlib.Core.List.{List}
 use lib.ListN.{length, getD, set}

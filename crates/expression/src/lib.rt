@@ -1,13 +1,12 @@
-// Kind 1: the checks of an expression's nodes, and its chart written as a chart body.
+// Kind 1: the checks of an expression's nodes, the steps of its chart as numbers, and the chart written as a chart
+// body.
 mod body;
-mod marks;
 mod nodes;
 mod ranks;
 mod targets;
 mod words;
 
 use body::write_body;
-use marks::count_transitions;
 use nodes::check_nodes;
 use nodes::length_ok;
 use nodes::node_count;
@@ -17,10 +16,11 @@ use report::Place;
 use report::Stage;
 use report::Written;
 use targets::find_targets;
+use words::count_transitions;
 use words::first_words;
 ghost use mathlib.Core.Path.{_≡_};
 ghost use lib.ListN.{length};
-ghost use Rattle.expression.specs.Table.{checkOf, WellFormed};
+ghost use Rattle.expression.specs.Table.{checkOf};
 ghost use Rattle.expression.specs.Body.{bodyOf, writtenOf, bufferOf};
 ghost use Rattle.chart.specs.Numbered.{Numbered};
 
@@ -34,24 +34,37 @@ pub fn check(nodes: &[u8]) -> Stage
     check_nodes(nodes)
 }
 
+// Numbers the steps of the expression's chart: the keys, their number, and a word for each vertex. The
+// check and the writing of the chart both go by them.
+pub fn number_steps(nodes: &[u8], keys: &mut [usize; 128], words: &mut [u64; 128]) -> usize
+    requires { ⌜ checkOf (now nodes) ≡ Stage.Passed ⌝ }
+    ensures { λ r. ⌜ Numbered (bodyOf (now (nodes .entry))) (now (keys .exit)) (now (words .exit)) r ⌝ }
+{
+    let n = node_count(nodes);
+    let targets = find_targets(nodes, n);
+    let m = collect_keys(nodes, n, &targets, keys);
+    let ranks = rank_nodes(nodes, n, &targets, keys, m);
+    first_words(nodes, n, &ranks, words);
+    m
+}
+
 // The chart of nodes that pass: 54, or the body. The transitions are counted before anything is
 // written, since a refusal changes nothing.
 fn write_passed(nodes: &[u8], out: &mut [u8]) -> Written
-    requires { ⌜ WellFormed (now nodes) ⌝ }
+    requires { ⌜ checkOf (now nodes) ≡ Stage.Passed ⌝ }
     ensures { λ r. ⌜ (r ≡ writtenOf (now (nodes .entry)) (length (now (out .entry))))
         × (now (out .exit) ≡ bufferOf (now (nodes .entry)) (now (out .entry))) ⌝ }
 {
     let n = node_count(nodes);
-    let targets = find_targets(nodes, n);
     let mut keys = [0usize; 128];
-    let m = collect_keys(nodes, n, &targets, &mut keys);
-    let ranks = rank_nodes(nodes, n, &targets, &keys, m);
-    let t = count_transitions(nodes, n, &ranks, m);
+    let mut words = [0u64; 128];
+    number_steps(nodes, &mut keys, &mut words);
+    let t = count_transitions(&words, n);
     let needed = 4 + 4 * t;
     if out.len() < needed {
         return Written::Refused(Place::OutputLength(needed));
     }
-    write_body(out, nodes, n, &ranks, &keys, m, t);
+    write_body(out, n, t, &keys, &words);
     Written::Length(needed)
 }
 
@@ -65,18 +78,4 @@ pub fn write_chart(nodes: &[u8], out: &mut [u8]) -> Written
         Stage::Refused(place) => Written::Refused(place),
         Stage::Passed => write_passed(nodes, out),
     }
-}
-
-// Numbers the steps of the expression's chart, without writing it: the keys, their number, and a
-// word for each vertex.
-pub fn number_steps(nodes: &[u8], keys: &mut [usize; 128], words: &mut [u64; 128]) -> usize
-    requires { ⌜ (checkOf (now nodes) ≡ Stage.Passed) × (length (now keys) ≡ 128) ⌝ }
-    ensures { λ r. ⌜ Numbered (bodyOf (now (nodes .entry))) (now (keys .exit)) (now (words .exit)) r ⌝ }
-{
-    let n = node_count(nodes);
-    let targets = find_targets(nodes, n);
-    let m = collect_keys(nodes, n, &targets, keys);
-    let ranks = rank_nodes(nodes, n, &targets, keys, m);
-    *words = first_words(nodes, n, &ranks);
-    m
 }

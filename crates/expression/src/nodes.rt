@@ -5,7 +5,7 @@ use report::Stage;
 ghost use mathlib.Core.Path.{_≡_};
 ghost use Prim.Native.Nat.{_<_, _≤_};
 ghost use lib.ListN.{getD};
-ghost use Rattle.expression.specs.Table.{kindOf, leftOf, rightOf, node, isGood, count, lowest, lengthOk, malformed, checkOf, Sized, NodeAt};
+ghost use Rattle.expression.specs.Table.{kindOf, leftOf, rightOf, node, isGood, count, lowestFailing, lengthOk, malformed, checkOf, Sized, NodeAt};
 ghost use Rattle.expression.specs.Uses.{bump, tally, Tallied, AtMost, onceIn};
 
 // Document 01's kinds of nodes.
@@ -128,7 +128,7 @@ fn count_uses(nodes: &[u8], n: usize) -> [usize; 128]
 // 12: the lowest of the first m nodes that is not an operand exactly once, or m.
 fn lowest_misused(uses: &[usize; 128], m: usize) -> usize
     requires { ⌜ m ≤ 128 ⌝ }
-    ensures { λ r. ⌜ r ≡ lowest (onceIn (now (uses .entry))) 0 m ⌝ }
+    ensures { λ r. ⌜ r ≡ lowestFailing (onceIn (now (uses .entry))) 0 m ⌝ }
 {
     let mut j: usize = 0;
     while j < m {

@@ -1,36 +1,35 @@
 -- An accepted file is exactly one that holds a yard, with the counts of its verdict.
-use mathlib.Core.Path.{_≡_, refl, sym, _∙_, ap, subst}
+use mathlib.Core.Path.{_≡_, sym, _∙_, ap}
 use mathlib.Core.Logic.{_↔_}
 use mathlib.Core.List.{List, [], _∷_}
-use Prim.Native.Nat.{ℕ, zero, suc, _+_, _*_, _<_, _≤_}
+use Prim.Native.Nat.{ℕ, zero, suc, _+_, _*_}
 use native.Mathlib.Omega.{arith}
-use lib.ListN.{length, getD, take, drop}
+use lib.ListN.{length, take, drop}
 use lib.Seq.{getD-drop}
 use Rattle.theory.specs.Systems.{Bisimulation}
-use Rattle.theory.specs.Transitions as transitions
+use Rattle.report.specs.declared.Labelled.the-variants as labelled
 use Rattle.report.specs.declared.Stage.the-variants as stage
 use Rattle.report.specs.declared.Verdict.the-variants.{Accepted}
 use Rattle.bits.specs.Bits.{Bytes}
 use Rattle.chart.specs.Bodies as chart
 use Rattle.chart.specs.Checks as checks
-use Rattle.chart.specs.Steps.{transitionsOf, StepsOf}
 use Rattle.chart.proofs.Checks as checks′
-use Rattle.expression.specs.Table as nodes
-use Rattle.expression.specs.Body.{bodyOf, chartOf}
+use Rattle.expression.specs.Body.{bodyOf}
 use Rattle.expression.proofs.Table as nodes′
 use Rattle.expression.proofs.Chart.{body-vertices, body-start, body-transitions}
-use Rattle.witness.specs.declared.Labelled.the-variants as labelled
 use Rattle.witness.specs.Labellings.{labelledOf, loopsOf}
 use Rattle.witness.proofs.Labellings.{labelled-iff-witness, labelled-number, labelled-loops, loops-number}
 use Rattle.bisimulation.specs.Relations.{relationOf}
+use Rattle.bisimulation.specs.Answers.{Related}
 use Rattle.bisimulation.proofs.Relations.{relation-iff-bisimulation}
-use Rattle.verdict.specs.Files.{fileOf, pairAt, offsetOf, bodyAt, Whole}
+use Rattle.bits.specs.Packed.{twoAt}
+use Rattle.verdict.specs.Files.{fileOf, offsetOf, bodyAt, Whole}
 use Rattle.verdict.specs.Verdicts.{nodesIn, chartIn, labelsIn, relationIn, verdictOf}
 use Rattle.verdict.proofs.Files.{records-iff, records-whole}
 use Rattle.verdict.proofs.Layouts.{whole-layout, layout-whole}
 use Rattle.verdict.proofs.Verdicts.{accepted-iff}
-use Rattle.promises.specs.Demand2.{chartSystem, Related}
-use Rattle.promises.specs.Accepted.{expressionSystem, Yard, Holds}
+use Rattle.promises.specs.Demand2.{chartSystem}
+use Rattle.promises.specs.Accepted.{expressionSystem, Holds}
 
 -- the written body's chart is the expression's
 same-chart : (s b relation : List ℕ) → Bisimulation (chartSystem (bodyOf s)) (chartSystem b) (Related relation) ↔ Bisimulation (expressionSystem s) (chartSystem b) (Related relation)
@@ -43,9 +42,9 @@ taken-bytes (suc n) [] h i = omega arith
 taken-bytes (suc n) (x ∷ l) h zero = h 0
 taken-bytes (suc n) (x ∷ l) h (suc i) = taken-bytes n l (λ j. h (suc j)) i
 
-part-bytes : (f : List ℕ) (k : ℕ) → Bytes f → Bytes (bodyAt f k)
+pub part-bytes : (f : List ℕ) (k : ℕ) → Bytes f → Bytes (bodyAt f k)
 unfolding bodyAt
-part-bytes f k bytes = taken-bytes (pairAt f (offsetOf f k)) (drop (offsetOf f k + 4) f) (λ i. rw getD-drop (bytes (offsetOf f k + 4 + i)))
+part-bytes f k bytes = taken-bytes (twoAt f (offsetOf f k)) (drop (offsetOf f k + 4) f) (λ i. rw getD-drop (bytes (offsetOf f k + 4 + i)))
 
 module _ (f : List ℕ) (bytes : Bytes f) where
   pub accepted-holds : (v t l : ℕ) → verdictOf f ≡ Accepted v t l → Holds f v t l

@@ -1,23 +1,19 @@
 -- Demand 2, proved.
-use mathlib.Core.Path.{_≡_, refl, sym, _∙_, ap, subst}
-use mathlib.Core.Logic.{_↔_}
-use mathlib.Core.List.{List, _++_, List·Memᴰ}
-use Prim.Native.Nat.{ℕ, suc, _-_, _<_, _≤_}
+use mathlib.Core.Path.{_≡_, sym, _∙_, subst}
+use mathlib.Core.List.{List, List·Memᴰ}
+use Prim.Native.Nat.{ℕ, suc, _-_, _<_}
 use native.Mathlib.Omega.{arith}
-use lib.ListN.{length, drop}
-use Rattle.theory.specs.Expressions.{Target, Step}
-use Rattle.theory.specs.Nodes.{expr, residual, meaning}
+use Rattle.theory.specs.Expressions.{Step}
+use Rattle.theory.specs.Nodes.{residual}
 use Rattle.theory.proofs.ExpressionCharts.{residual-of-start}
 use Rattle.report.specs.declared.Stage.the-variants as stage
-use Rattle.report.specs.declared.Written.the-variants as written
 use Rattle.bits.specs.Bits.{Bytes}
 use Rattle.chart.specs.Checks as chart
-use Rattle.chart.specs.Steps.{transitionsOf}
 use Rattle.expression.specs.Table as nodes
-use Rattle.expression.specs.Body.{bodyOf, chartOf, writtenOf, bufferOf}
+use Rattle.expression.specs.Body.{bodyOf, chartOf}
 use Rattle.expression.specs.Charts.{IsChart}
 use Rattle.expression.proofs.Table.{passed→well-formed, tree}
-use Rattle.expression.proofs.Chart.{body-start, body-transitions, passed-chart, length-says}
+use Rattle.expression.proofs.Chart.{body-vertices, body-start, body-transitions, passed-chart, length-says}
 use Rattle.witness.proofs.Labellings.{labelled-iff-witness}
 use Rattle.bisimulation.proofs.Relations.{relation-iff-bisimulation}
 use Rattle.promises.specs.Demand2.{ExactSteps, WritesTheChart, LabellingPasses, RelationPasses}
@@ -36,6 +32,12 @@ module _ (s : List ℕ) (passed : nodes.checkOf s ≡ stage.Passed) where
       (λ (t, m, e). subst (Step (residual (nodes.node s) (nodes.count s) k) a) e (chart-of .steps k a t (rw body-transitions at m) .1)),
     );
     vertices = λ u a t m. vertex-of u a t (rw body-transitions at m);
+    targets = λ u a t m.
+        let b = chart-of .fits (u, a, t) (rw body-transitions at m) in
+        let v = body-vertices s in
+        omega arith;
+    size = body-vertices s;
+    ascend = rw body-transitions (chart-of .ascend);
     start = λ k e. (body-start s ∙ e, residual-of-start (nodes.node s) (nodes.count s) (tree s (passed→well-formed s passed)) k e);
   }
 

@@ -1,3 +1,4 @@
 -- The proofs of the demands.
+pub mod Demand1
 pub mod Demand2
 pub mod Accepted

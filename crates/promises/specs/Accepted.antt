@@ -1,5 +1,5 @@
--- What an accepted file is: four records, an expression, a connected chart with a layered loop witness, and a bisimulation between the
--- expression's chart and the panel's; and the three counts.
+-- What an accepted file is: four records, an expression, a connected chart with a layered loop witness, and a
+-- bisimulation between the expression's chart and the panel's; and the three counts.
 use mathlib.Core.Path.{_≡_}
 use mathlib.Core.List.{List}
 use Prim.Native.Nat.{ℕ, suc, _*_, _<_, _≤_}
@@ -13,8 +13,9 @@ use Rattle.chart.specs.Bodies as chart
 use Rattle.chart.specs.Steps.{StepsOf}
 use Rattle.expression.specs.Table as nodes
 use Rattle.expression.specs.Body.{chartOf}
+use Rattle.bisimulation.specs.Answers.{Related}
 use Rattle.verdict.specs.Files.{fileOf}
-use Rattle.promises.specs.Demand2.{chartSystem, Related}
+use Rattle.promises.specs.Demand2.{chartSystem}
 
 -- the chart of an expression's nodes
 abbrev pub expressionSystem : List ℕ → System

@@ -56,6 +56,12 @@ pub enum Stage {
     Refused(Place),
 }
 
+// What the checks of a labelling say: the number of loops, or a refusal.
+pub enum Labelled {
+    Passed(usize),
+    Refused(Place),
+}
+
 // The verdict on a yard file: accepted with its vertices, transitions and loops, or refused at a place.
 pub enum Verdict {
     Accepted(usize, usize, usize),

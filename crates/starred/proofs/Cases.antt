@@ -15,9 +15,9 @@ use Rattle.expression.specs.Body.{fourOf, flat, chartOf, bodyOf, writtenOf, buf
 use Rattle.witness.specs.Labellings as labelling
 use Rattle.bisimulation.specs.Relations as relation
 use Rattle.verdict.specs.Files.{recordStage, recordsFrom, recordsOf, offsetOf, bodyAt}
-use Rattle.verdict.specs.Verdicts.{bodiesOf, labellingOf, loopsOf, verdictOf}
-use Rattle.starred.specs.Cases.{nodesG, nodesTwice, nodesSum, labelsG, fileG, nested, cases, allHold}
+use Rattle.verdict.specs.Verdicts.{verdictOf}
+use Rattle.starred.specs.Cases.{nodesG, nodesTwice, nodesSum, chartG, labelsG, fileG, nested, writtenG, writtenSum, cases, allHold}
 
 pub all-hold : allHold cases ≡ true
-unfolding cases nodesG nodesTwice nodesSum labelsG fileG nested verdictOf loopsOf labellingOf bodiesOf bodyAt offsetOf recordsOf recordsFrom recordStage relation.relationOf relation.outcomeOf relation.strayTest relation.relatedTest relationOutcome failingPair pairOutcome unmatchedTest matchedTest labelling.labelledOf labelling.outcomeOf labelling.loopsOf labelling.stepTest outcome loopsOutcome failingTest loopOutcome notLowerTest cycleTest unreachedTest bodyTest loopList loopTest anyTest reaches rounds values tests.someBelow tests.lowest tests.firstRow tests.rowPairs tests.pairsFrom tests.pairs chart.checkOf chart.headerOk chart.fitsAt chart.aboveAt chart.okAt chart.firstBad chart._and_ writtenOf bufferOf bodyOf chartOf flat fourOf nodes.checkOf nodes.misused nodes.malformed nodes.lowest nodes.count nodes.node transitions collect edges after rise riseF uses up first down downF precedes sort insert
+unfolding cases nodesG nodesTwice nodesSum chartG labelsG fileG nested writtenG writtenSum verdictOf bodyAt offsetOf recordsOf recordsFrom recordStage relation.relationOf relation.relationOutcomeOf relation.strayBitTest relation.relatedTest relationOutcome failingPair pairOutcome unmatchedTest matchedTest labelling.labelledOf labelling.labellingOutcome labelling.loopsOf labelling.stepTest outcome loopsOutcome failingTest loopOutcome notLowerTest cycleTest unreachedTest bodyTest loopList loopTest anyTest reaches rounds values tests.someBelow tests.lowest tests.firstRow tests.rowPairs tests.pairsFrom tests.pairs chart.checkOf chart.headerOk chart.fitsAt chart.aboveAt chart.okAt chart.firstBad chart._and_ writtenOf bufferOf bodyOf chartOf flat fourOf nodes.checkOf nodes.misused nodes.malformed nodes.lowestFailing nodes.count nodes.node transitions collect edges after rise riseF uses up first down downF precedes sort insert
 all-hold = refl

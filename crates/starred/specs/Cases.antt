@@ -8,7 +8,7 @@ use Rattle.report.specs.declared.Numbers.{Numbers}
 use Rattle.report.specs.Numbers.{four, verdictNumbers, writtenNumbers}
 use Rattle.expression.specs.Body.{writtenOf, bufferOf}
 use Rattle.witness.specs.Labellings.{labelledOf}
-use Rattle.verdict.specs.Verdicts.{counted, verdictOf}
+use Rattle.verdict.specs.Verdicts.{onLoops, accepted, verdictOf}
 
 pub data Case : Type 0 where
   -- the verdict on a yard file, as four numbers
@@ -29,8 +29,11 @@ sameBytes (x ∷ xs) (y ∷ ys) = eqb x y && sameBytes xs ys
 
 abbrev pub holds : Case → Bool
 holds (checks file answer) = sameNumbers (verdictNumbers (verdictOf file)) answer
-holds (labels body labelling answer) = sameNumbers (verdictNumbers (counted body (labelledOf body labelling))) answer
-holds (writes nodes lent answer left) = sameNumbers (writtenNumbers (writtenOf nodes (length lent))) answer && sameBytes (bufferOf nodes lent) left
+holds (labels body labelling answer) =
+    sameNumbers (verdictNumbers (onLoops (labelledOf body labelling) (accepted body))) answer
+holds (writes nodes lent answer left) =
+    sameNumbers (writtenNumbers (writtenOf nodes (length lent))) answer
+    && sameBytes (bufferOf nodes lent) left
 
 abbrev pub allHold : List Case → Bool
 allHold [] = true
@@ -38,34 +41,72 @@ allHold (c ∷ cs) = holds c && allHold cs
 
 -- G's record of kind 1, and the same with the root 04 00 00 00
 unfoldable pub nodesG : List ℕ
-nodesG = 0x01 ∷ 0x01 ∷ 0x00 ∷ 0x00 ∷ 0x01 ∷ 0x02 ∷ 0x00 ∷ 0x00 ∷ 0x04 ∷ 0x00 ∷ 0x00 ∷ 0x01 ∷ []
+nodesG =
+    0x01 ∷ 0x01 ∷ 0x00 ∷ 0x00
+    ∷ 0x01 ∷ 0x02 ∷ 0x00 ∷ 0x00
+    ∷ 0x04 ∷ 0x00 ∷ 0x00 ∷ 0x01 ∷ []
 
 unfoldable pub nodesTwice : List ℕ
-nodesTwice = 0x01 ∷ 0x01 ∷ 0x00 ∷ 0x00 ∷ 0x01 ∷ 0x02 ∷ 0x00 ∷ 0x00 ∷ 0x04 ∷ 0x00 ∷ 0x00 ∷ 0x00 ∷ []
+nodesTwice =
+    0x01 ∷ 0x01 ∷ 0x00 ∷ 0x00
+    ∷ 0x01 ∷ 0x02 ∷ 0x00 ∷ 0x00
+    ∷ 0x04 ∷ 0x00 ∷ 0x00 ∷ 0x00 ∷ []
 
 -- a + a
 unfoldable pub nodesSum : List ℕ
-nodesSum = 0x01 ∷ 0x07 ∷ 0x00 ∷ 0x00 ∷ 0x01 ∷ 0x07 ∷ 0x00 ∷ 0x00 ∷ 0x02 ∷ 0x00 ∷ 0x00 ∷ 0x01 ∷ []
+nodesSum =
+    0x01 ∷ 0x07 ∷ 0x00 ∷ 0x00
+    ∷ 0x01 ∷ 0x07 ∷ 0x00 ∷ 0x00
+    ∷ 0x02 ∷ 0x00 ∷ 0x00 ∷ 0x01 ∷ []
+
+-- G's chart: V 2, start 1, (1,1,1) (1,2,0)
+unfoldable pub chartG : List ℕ
+chartG =
+    0x02 ∷ 0x01 ∷ 0x02 ∷ 0x00
+    ∷ 0x01 ∷ 0x01 ∷ 0x01 ∷ 0x00
+    ∷ 0x01 ∷ 0x02 ∷ 0x00 ∷ 0x00 ∷ []
 
 -- a row of a relation whose first byte is given
-abbrev pub row : ℕ → List ℕ
-row b = b ∷ replicate 15 0x00
+abbrev pub relationRow : ℕ → List ℕ
+relationRow b = b ∷ replicate 15 0x00
 
 -- G with these nodes, labels and first and last rows of its relation
 unfoldable pub fileG : List ℕ → List ℕ → ℕ → ℕ → List ℕ
 fileG nodes labelling first last =
     (0x0C ∷ 0x00 ∷ 0x01 ∷ 0x00 ∷ nodes)
-    ++ ((0x0C ∷ 0x00 ∷ 0x02 ∷ 0x00 ∷ 0x02 ∷ 0x01 ∷ 0x02 ∷ 0x00 ∷ 0x01 ∷ 0x01 ∷ 0x01 ∷ 0x00 ∷ 0x01 ∷ 0x02 ∷ 0x00 ∷ 0x00 ∷ [])
+    ++ ((0x0C ∷ 0x00 ∷ 0x02 ∷ 0x00 ∷ chartG)
     ++ ((0x02 ∷ 0x00 ∷ 0x03 ∷ 0x00 ∷ labelling)
-    ++ ((0x40 ∷ 0x00 ∷ 0x04 ∷ 0x00 ∷ row first)
-    ++ (row 0x00 ++ (row 0x00 ++ row last)))))
+    ++ ((0x40 ∷ 0x00 ∷ 0x04 ∷ 0x00 ∷ relationRow first)
+    ++ (relationRow 0x00 ++ (relationRow 0x00 ++ relationRow last)))))
 
 -- V 3, start 1, (1,1,2) (1,3,0) (2,1,2) (2,2,1)
 unfoldable pub nested : List ℕ
-nested = 0x03 ∷ 0x01 ∷ 0x04 ∷ 0x00 ∷ 0x01 ∷ 0x01 ∷ 0x02 ∷ 0x00 ∷ 0x01 ∷ 0x03 ∷ 0x00 ∷ 0x00 ∷ 0x02 ∷ 0x01 ∷ 0x02 ∷ 0x00 ∷ 0x02 ∷ 0x02 ∷ 0x01 ∷ 0x00 ∷ []
+nested =
+    0x03 ∷ 0x01 ∷ 0x04 ∷ 0x00
+    ∷ 0x01 ∷ 0x01 ∷ 0x02 ∷ 0x00
+    ∷ 0x01 ∷ 0x03 ∷ 0x00 ∷ 0x00
+    ∷ 0x02 ∷ 0x01 ∷ 0x02 ∷ 0x00
+    ∷ 0x02 ∷ 0x02 ∷ 0x01 ∷ 0x00 ∷ []
 
 unfoldable pub labelsG : List ℕ
 labelsG = 0x01 ∷ 0x00 ∷ []
+
+-- G's expression chart: V 4, start 3, (1,1,3) (2,2,0) (3,1,3) (3,2,0)
+unfoldable pub writtenG : List ℕ
+writtenG =
+    0x04 ∷ 0x03 ∷ 0x04 ∷ 0x00
+    ∷ 0x01 ∷ 0x01 ∷ 0x03 ∷ 0x00
+    ∷ 0x02 ∷ 0x02 ∷ 0x00 ∷ 0x00
+    ∷ 0x03 ∷ 0x01 ∷ 0x03 ∷ 0x00
+    ∷ 0x03 ∷ 0x02 ∷ 0x00 ∷ 0x00 ∷ []
+
+-- that of a + a: V 4, start 3, (1,7,0) (2,7,0) (3,7,0)
+unfoldable pub writtenSum : List ℕ
+writtenSum =
+    0x04 ∷ 0x03 ∷ 0x03 ∷ 0x00
+    ∷ 0x01 ∷ 0x07 ∷ 0x00 ∷ 0x00
+    ∷ 0x02 ∷ 0x07 ∷ 0x00 ∷ 0x00
+    ∷ 0x03 ∷ 0x07 ∷ 0x00 ∷ 0x00 ∷ []
 
 unfoldable pub cases : List Case
 cases =
@@ -89,11 +130,11 @@ cases =
     ∷ labels nested (0x01 ∷ 0x00 ∷ 0x01 ∷ 0x00 ∷ []) (four 35 1 1 2)
     ∷ labels nested (0x02 ∷ 0x00 ∷ 0x01 ∷ 0x00 ∷ []) (four 0 3 4 2)
     -- G's expression chart; the two lent bytes past it are kept
-    ∷ writes nodesG (replicate 22 0xAA) (four 0 20 0 0) (0x04 ∷ 0x03 ∷ 0x04 ∷ 0x00 ∷ 0x01 ∷ 0x01 ∷ 0x03 ∷ 0x00 ∷ 0x02 ∷ 0x02 ∷ 0x00 ∷ 0x00 ∷ 0x03 ∷ 0x01 ∷ 0x03 ∷ 0x00 ∷ 0x03 ∷ 0x02 ∷ 0x00 ∷ 0x00 ∷ 0xAA ∷ 0xAA ∷ [])
+    ∷ writes nodesG (replicate 22 0xAA) (four 0 20 0 0) (writtenG ++ 0xAA ∷ 0xAA ∷ [])
     -- a lent byte too few: refused 54 with the bytes needed, and nothing lent is touched
     ∷ writes nodesG (replicate 19 0xAA) (four 54 20 0 0) (replicate 19 0xAA)
     -- the root 04 00 00 00: refused 12 0 2 0
     ∷ writes nodesTwice (replicate 20 0xAA) (four 12 0 2 0) (replicate 20 0xAA)
     -- a + a has one transition
-    ∷ writes nodesSum (replicate 16 0xAA) (four 0 16 0 0) (0x04 ∷ 0x03 ∷ 0x03 ∷ 0x00 ∷ 0x01 ∷ 0x07 ∷ 0x00 ∷ 0x00 ∷ 0x02 ∷ 0x07 ∷ 0x00 ∷ 0x00 ∷ 0x03 ∷ 0x07 ∷ 0x00 ∷ 0x00 ∷ [])
+    ∷ writes nodesSum (replicate 16 0xAA) (four 0 16 0 0) writtenSum
     ∷ []

@@ -4,20 +4,12 @@ use mathlib.Core.Path.{_≡_, refl, ap, sym, _∙_}
 use mathlib.Core.Logic.{⊎-elim}
 use mathlib.Core.List.{List, [], _∷_, List·Memᴰ, List·Memᴰ·not-nil, List·Memᴰ·append-cases, List·Memᴰ·eq-of-singleton, Memᴰ·of-map}
 use native.Mathlib.Omega.{arith}
-use Rattle.theory.specs.Nodes.{Op, op-sum, op-product, op-star, Node, bad, dead, leaf, bin, join, first, after, Tree}
+use Rattle.theory.specs.Nodes.{Op, op-sum, op-product, op-star, Node, bad, dead, leaf, bin, join, first, after, IsLeaf, LeafAction, Tree}
 use Rattle.theory.specs.Transitions.{Transition}
 use Rattle.theory.specs.ExpressionCharts.{vertexOf, edge, edges, transitions}
 use Rattle.theory.proofs.Down.{each-node, first-at}
 use Rattle.theory.proofs.Up.{Chain, chain}
 use Rattle.theory.proofs.ExpressionCharts.{transitions→}
-
--- node j is below n and does an action
-abbrev pub IsLeaf : (ℕ → Node) → ℕ → ℕ → Type 0
-IsLeaf nd n j = (a : ℕ) × (nd j ≡ leaf a) × (j < n)
-
--- an action that some leaf does
-abbrev pub LeafAction : (ℕ → Node) → ℕ → ℕ → Type 0
-LeafAction nd n a = (j : ℕ) × (j < n) × (nd j ≡ leaf a)
 
 module _ (nd : ℕ → Node) (n : ℕ) (tree : Tree nd n) where
   -- the first actions of a node are those of leaves

@@ -9,12 +9,13 @@ use native.Mathlib.Omega.{arith}
 use lib.Dec.{eqb}
 use lib.ListN.{length, length-append, length-map}
 use borrow.Author.Tests.{eq-eqb, ne-eqb, eqb-true, eqb-false}
-use Rattle.theory.specs.Nodes.{Op, op-sum, op-product, op-star, Node, bad, dead, leaf, bin, join, first, Up, top, on, over, aboveLeft, up, one, usesIn, uses, rise, Tree}
+use Rattle.theory.specs.Nodes.{Op, op-sum, op-product, op-star, Node, bad, dead, leaf, bin, join, first, Up, top, on, over, aboveLeft, up, one, usesIn, uses, rise, atLeaf, Tree}
+use Rattle.theory.specs.Recursions.{Parent, LocalUp}
 use Rattle.theory.specs.Transitions.{precedes}
 use Rattle.theory.specs.ExpressionCharts.{edge, edges, collect, transitions}
 use Rattle.theory.proofs.Ascending.{sort-le}
 use Rattle.theory.proofs.Down.{each-node, first-at}
-use Rattle.theory.proofs.Up.{Parent, parent-at, each-node-above, LocalUp, rise-eq, up-left, up-right, uses-of}
+use Rattle.theory.proofs.Up.{parent-at, each-node-above, rise-eq, up-left, up-right, uses-of}
 
 abbrev above : Up → (ℕ → ℕ) → ℕ
 above top g = 0
@@ -157,13 +158,6 @@ sum-one : (f : ℕ → ℕ) (m k : ℕ) → k < m → f k ≤ sum f m
 unfolding sum
 sum-one f zero k h = absurd (omega arith)
 sum-one f (suc m) k h = ⊎-elim (λ (e : k ≡ m). rw e (omega arith)) (λ (q : k < m). let i = sum-one f m k q in omega arith) (eq-or-lt-of-le (le-of-suc-le-suc h))
-
--- w at a leaf, 0 elsewhere
-abbrev pub atLeaf : Node → ℕ → ℕ
-atLeaf bad w = 0
-atLeaf dead w = 0
-atLeaf (leaf a) w = w
-atLeaf (bin o l r) w = 0
 
 -- 1 at a node with operands
 abbrev atBin : Node → ℕ

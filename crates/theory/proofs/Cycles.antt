@@ -1,16 +1,12 @@
 -- Over finitely many vertices, infinite paths are facts about cycles.
-use mathlib.Core.Path.{_≡_, refl, sym, _∙_, ap, subst}
+use mathlib.Core.Path.{_≡_}
 use mathlib.Core.Logic.{_≢_, _⊎_, inl, inr, _↔_}
-use Prim.Native.Nat.{ℕ, zero, suc, _≤_, _<_}
+use Prim.Native.Nat.{ℕ, suc, _<_}
 use native.Mathlib.Omega.{arith}
 use native.Mathlib.Decide.{ℕ-discrete}
-use Rattle.theory.specs.Paths.{Edges, Star, here, step, Plus, last, more, Endless, Returns, Avoid}
+use Rattle.theory.specs.Paths.{Edges, Star, Plus, last, more, Endless, Returns, Avoid, Straying}
 use Rattle.theory.proofs.Paths.{star-plus, not-avoid, cycle-endless, endless-star, endless-reach, stretch, last-visit, stray-endless, return-cycle}
 use Rattle.theory.proofs.Search.{look-below, pigeonhole}
-
--- a cycle, reached from v, that does not go through v
-abbrev pub Straying : Edges → ℕ → Type 0
-Straying E v = (w : ℕ) × Star E v w × Plus (Avoid v E) w w
 
 module _ {E : Edges} (size : ℕ) (bounded : (u w : ℕ) → E u w → w < size) where
   -- an infinite path whose first transitions are all in F goes round a cycle of F

@@ -5,6 +5,7 @@ use mathlib.Core.List.{[]}
 use native.Mathlib.Omega.{arith}
 use Rattle.theory.specs.Expressions.{deadlock}
 use Rattle.theory.specs.Nodes.{Op, Node, bad, dead, leaf, bin, downF, down, grow, exprAlg, expr, join, firstAlg, first, Tree}
+use Rattle.theory.specs.Recursions.{Local}
 
 -- induction: a law of every node that holds of a node where it holds of the node's operands
 module _ (nd : ℕ → Node) (n : ℕ) (tree : Tree nd n) (P : ℕ → Type 0) (at-node : (k : ℕ) (v : Node) → k < n → nd k ≡ v → ((o : Op) (l r : ℕ) → v ≡ bin o l r → P l × P r) → P k) where
@@ -17,10 +18,7 @@ module _ (nd : ℕ → Node) (n : ℕ) (tree : Tree nd n) (P : ℕ → Type 0) (
   pub each-node : (k : ℕ) → k < n → P k
   each-node k h = below (suc k) k (omega arith) h
 
--- an algebra reads nothing but a node's operands
-unfoldable pub Local : {A : Type 0} → (ℕ → Node → (ℕ → A) → A) → Type 0
-Local {A} alg = (k : ℕ) (v : Node) (x y : ℕ → A) → ((o : Op) (l r : ℕ) → v ≡ bin o l r → (x l ≡ y l) × (x r ≡ y r)) → alg k v x ≡ alg k v y
-
+-- THE FUEL DOES NOT MATTER
 module _ (nd : ℕ → Node) (n : ℕ) (tree : Tree nd n) {A : Type 0} (alg : ℕ → Node → (ℕ → A) → A) (none : A) (local : Local alg) where
   enough : (f g k : ℕ) → k < n → k < f → k < g → downF alg none nd f k ≡ downF alg none nd g k
   unfolding downF Local

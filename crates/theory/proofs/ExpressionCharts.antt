@@ -10,7 +10,7 @@ use Rattle.theory.specs.Derivatives.{Move, onto, moved, derivatives}
 use Rattle.theory.specs.Nodes.{Op, op-sum, op-product, op-star, Node, bad, dead, leaf, bin, expr, first, aboveLeft, follow, after, remainders, residual, meaning, Tree}
 use Rattle.theory.specs.Ascending.{Ascending}
 use Rattle.theory.specs.Transitions.{Transition, precedes}
-use Rattle.theory.specs.ExpressionCharts.{vertexOf, edge, edges, leaving, collect, transitions}
+use Rattle.theory.specs.ExpressionCharts.{vertexOf, edge, edges, meant, leaving, collect, transitions}
 use Rattle.theory.proofs.Ascending.{sort-ascends, sort→, sort←, precedes-order}
 use Rattle.theory.proofs.Derivatives.{derivatives-sound, derivatives-complete}
 use Rattle.theory.proofs.Down.{each-node, expr-at, first-at}
@@ -32,10 +32,6 @@ plug-to (r ∷ rs) e = plug-to rs (product e r)
 in-context : (rs : List Expr) (e : Expr) → derivatives (foldl product e rs) ≡ map (plugged rs) (derivatives e)
 in-context [] e = sym (map-id (derivatives e))
 in-context (r ∷ rs) e = in-context rs (product e r) ∙ map-map (plugged rs) (moved r) (derivatives e)
-
--- what leaves a vertex, with the vertex that it leads to read as what it stands for
-abbrev pub meant : (ℕ → Node) → ℕ → ℕ × ℕ → Move
-meant nd n e = (e .0, meaning nd n (e .1))
 
 module _ (nd : ℕ → Node) (n : ℕ) (tree : Tree nd n) where
   -- what a leaf leads to

@@ -1,28 +1,25 @@
 -- Orders of all loops: one exists, and each runs through, leaves exactly the branches, and then no vertex has an infinite path.
-use mathlib.Core.Path.{_≡_, refl, sym, _∙_, ap, subst}
-use mathlib.Core.Logic.{_≢_, _⊎_, inl, inr, ⊎-elim, _↔_}
+use mathlib.Core.Path.{_≡_, refl, ap, subst}
+use mathlib.Core.Logic.{_≢_, inl, ⊎-elim, _↔_, Iff·rfl}
 use mathlib.Core.Bool.{Bool}
 use mathlib.Core.List.{List, [], _∷_, map, List·Memᴰ, List·Memᴰ·head, List·Memᴰ·tail, List·Memᴰ·cases-cons, List·Memᴰ·not-nil, Memᴰ·map, Memᴰ·of-map}
 use Prim.Native.Nat.{ℕ, _<_}
-use Rattle.theory.specs.Paths.{Star, Plus, Endless}
+use Rattle.theory.specs.Paths.{Plus, Endless}
 use Rattle.theory.specs.Charts.{Steps, Formed, Listed, Any, Branch, Loop}
 use Rattle.theory.specs.LoopCharts.{InLoop}
 use Rattle.theory.specs.Checks.{Passed}
-use Rattle.theory.specs.Standing.{Loops, Standing, Inside}
-use Rattle.theory.specs.Removals.{Answer, done, Removes, Plain, left-steps, left-loops, RemovesAll, PlainAll}
-use Rattle.theory.specs.Orders.{Distinct, Before, Order}
+use Rattle.theory.specs.Standing.{Loops, Agree, Inside}
+use Rattle.theory.specs.Removals.{Answer, done, Plain, left-loops, RemovesAll, PlainAll, all-done}
+use Rattle.theory.specs.Orders.{Pair, Distinct, Before, Order}
 use Rattle.theory.proofs.Paths.{plus-star, endless-map}
 use Rattle.theory.proofs.Checks.{passed-no-endless}
 use Rattle.theory.specs.Tests.{Decides, pairs}
 use Rattle.theory.specs.LabellingTests.{loopTest}
 use Rattle.theory.proofs.LabellingTests.{decides-loop, listed-test, listed-tests}
-use Rattle.theory.proofs.Pairs.{Pair, before-cases, before-second, before-map, distinct-cons, distinct-map, pairs→, pairs←, pairs-distinct, pairs-before}
-use Rattle.theory.proofs.Removals.{Agree, agree-at-first, rule-of, left-agree, left-loops-are, removals-agree}
+use Rattle.theory.proofs.Pairs.{before-cases, before-second, before-map, distinct-cons, distinct-map, pairs→, pairs←, pairs-distinct, pairs-before}
+use Rattle.theory.proofs.Removals.{agree-at-first, agree-same, rule-of, left-agree, left-loops-are, removals-agree}
 
 -- EACH ORDER RUNS THROUGH
-abbrev pub all-done : List Pair → List Answer
-all-done xs = map (λ x. done) xs
-
 -- what an order says of the loops that are still to come
 record Waiting (S : Steps) (X : Loops) (xs : List Pair) : Type 0 where
   pub same : (v l : ℕ) → X v l ↔ List·Memᴰ (v, l) xs
@@ -55,15 +52,16 @@ plain-order : {S : Steps} {X : Loops} (xs : List Pair) → Waiting S X xs → (Y
 plain-order {X = X} [] c = (X, PlainAll.none, λ v l x. List·Memᴰ·not-nil ((c .same v l) .0 x))
 plain-order ((v, l) ∷ xs) c =
     let (Y, p, e) = plain-order xs (rest-waits c) in
-    (Y, PlainAll.call (Plain.goes ((c .same v l) .1 (List·Memᴰ·head refl)) (first-free c)) p, e)
+    (Y, PlainAll.call (Plain.goes ((c .same v l) .1 (List·Memᴰ·head refl)) (first-free c)) (λ u m. Iff·rfl) p, e)
 
 module _ {size : ℕ} {S : Steps} (formed : Formed size S) (passed : Passed S) where
   -- where the plain set has answers, the rule has the same
   pub rules-of : {X Y : Loops} {R : Steps} → ((v l : ℕ) → X v l → Loop S v l) → Agree S X R → {cs : List Pair} {ys : List Answer} → PlainAll S X cs ys Y → (Q : Steps) × RemovesAll R cs ys Q × Agree S Y Q
   rules-of {R = R} loops agree PlainAll.none = (R, RemovesAll.none, agree)
-  rules-of {X = X} {R = R} loops agree (PlainAll.call {v = v} {l = l} {a = a} p ps) =
-      let (Q, q, g) = rules-of (left-loops-are formed passed loops agree v l a) (left-agree formed passed loops agree v l a p) ps in
-      (Q, RemovesAll.call (rule-of formed passed loops agree v l p) q, g)
+  rules-of {X = X} {R = R} loops agree (PlainAll.call {v = v} {l = l} {a = a} p stay ps) =
+      let here = agree-same S stay (λ u m w. Iff·rfl) (left-agree formed passed loops agree v l a p) in
+      let (Q, q, g) = rules-of (λ u m x. left-loops-are formed passed loops agree v l a u m (stay u m .0 x)) here ps in
+      (Q, RemovesAll.call (rule-of formed passed loops agree v l p) (λ u m w. Iff·rfl) q, g)
 
   module _ (xs : List Pair) (order : Order S xs) where
     order-waits : Waiting S (Loop S) xs

@@ -7,11 +7,8 @@ use Prim.Native.Nat.{ℕ, zero, suc, _+_, _≤_, _<_}
 use native.Mathlib.Omega.{arith}
 use native.Mathlib.Decide.{ℕ-discrete}
 use Rattle.theory.specs.Least.{Earlier}
-use Rattle.theory.specs.Orders.{Distinct, none, one, Before, at-head, further}
+use Rattle.theory.specs.Orders.{Pair, Distinct, none, one, Before, at-head, further}
 use Rattle.theory.specs.Tests.{rowPairs, pairsFrom, pairs}
-
-abbrev pub Pair : Type 0
-Pair = ℕ × ℕ
 
 -- LISTS
 pub before-cases : {x y z : Pair} {zs : List Pair} → Before x y (z ∷ zs) → ((x ≡ z) × List·Memᴰ y zs) ⊎ Before x y zs

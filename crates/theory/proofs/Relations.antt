@@ -7,8 +7,8 @@ use native.Mathlib.Omega.{arith}
 use lib.Dec.{eqb, ltb}
 use borrow.Author.Tests.{ltb-true, ltb-false}
 use Rattle.theory.specs.Least.{Least, Earlier, FirstPair}
-use Rattle.theory.specs.Systems.{Bisimulation}
-use Rattle.theory.specs.Relations.{Indexed, indexed, Matched, Unmatched, converse, AllMatched, PairPasses, RelationOutcome, related, starts-apart, ends-apart, left-unmatched, right-unmatched, PairFails, fails-43, fails-44, fails-45, RelationChecked, all-pass, fails-42, fails-pair}
+use Rattle.theory.specs.Systems.{Bisimulation, converse}
+use Rattle.theory.specs.Relations.{Indexed, indexed, Matched, Unmatched, AllMatched, PairPasses, RelationOutcome, related, starts-apart, ends-apart, left-unmatched, right-unmatched, PairFails, fails-43, fails-44, fails-45, RelationChecked, all-pass, fails-42, fails-pair}
 use Rattle.theory.specs.Tests.{Decides, someBelow, lowest, firstRow}
 use Rattle.theory.specs.RelationTests.{RelationTest, matchedTest, unmatchedTest, same, pairFailed, pairOutcome, failingPair, relationOutcome}
 use Rattle.theory.proofs.Search.{least-one, same-or-earlier}

@@ -1,17 +1,17 @@
 -- The tests of a removal give the answers of the rule and of the plain set; so every list of calls has answers.
 use mathlib.Core.Path.{_≡_, refl}
-use mathlib.Core.Logic.{_≢_, _⊎_, inl, inr, ⊎-elim, _↔_}
-use mathlib.Core.Bool.{Bool, true, false, cond, _&&_, _||_, not}
+use mathlib.Core.Logic.{_⊎_, _↔_, Iff·rfl}
+use mathlib.Core.Bool.{Bool, true, false, cond, _||_, not}
 use mathlib.Core.List.{List, [], _∷_}
 use Prim.Native.Nat.{ℕ, _<_}
 use native.Mathlib.Decide.{ℕ-discrete}
-use Rattle.theory.specs.Paths.{Star, Plus, Avoid, Endless, Returns}
+use Rattle.theory.specs.Paths.{Endless, Returns}
 use Rattle.theory.specs.Charts.{Steps, Formed, Listed, Any, Loop}
-use Rattle.theory.specs.LoopCharts.{InLoop, Around, LoopChart, Reached, Stray}
-use Rattle.theory.specs.Standing.{Loops, Inside}
+use Rattle.theory.specs.LoopCharts.{Around, Reached, Stray}
+use Rattle.theory.specs.Standing.{Loops, DecidedLoops, Inside}
 use Rattle.theory.specs.Removals.{Answer, done, refused-51, refused-52, Removes, Plain, left-steps, left-loops, RemovesAll, PlainAll}
-use Rattle.theory.specs.Tests.{Decides, someBelow}
-use Rattle.theory.specs.LabellingTests.{StepTest, anyTest, loopTest, bodyTest}
+use Rattle.theory.specs.Tests.{Decides}
+use Rattle.theory.specs.LabellingTests.{StepTest, loopTest}
 use Rattle.theory.specs.RemovalTests.{aroundTest, strayTest, ruleAnswer, insideTest, plainAnswer}
 use Rattle.theory.proofs.Paths.{plus-below}
 use Rattle.theory.proofs.Tests.{decides-dec, test-of, not-so, decides-same, decides-and, decides-or, decides-not, decides-eqb, decides-below}
@@ -96,21 +96,16 @@ rule-answers {R = R} f g [] = ([], R, RemovesAll.none)
 rule-answers {size} {top} {R} f g ((v, l) ∷ cs) =
     let a : Answer = ruleAnswer (listed-test f g) size top v l in
     let (xs, Q, ps) = rule-answers {R = left-steps a v l R} (left-formed v l a f) (left-listed v l a g) cs in
-    (a ∷ xs, Q, RemovesAll.call (rule-answer (listed-tests f g) f (g .label-below) v l) ps)
+    (a ∷ xs, Q, RemovesAll.call (rule-answer (listed-tests f g) f (g .label-below) v l) (λ u m w. Iff·rfl) ps)
 
--- a set of loops of S whose membership is decided
-pub record Known (S : Steps) (X : Loops) : Type 0 where
-  pub loops : (v l : ℕ) → X v l → Loop S v l
-  pub member : (v l : ℕ) → Dec (X v l)
+left-decided : {S : Steps} {X : Loops} (v l : ℕ) (a : Answer) → DecidedLoops S X → DecidedLoops S (left-loops a v l X)
+left-decided v l done k = record { loops = λ u m x. k .loops u m (x .0); member = λ u m. apart-too (k .member u m) v l u m }
+left-decided v l (refused-51 p q) k = k
+left-decided v l (refused-52 p q r) k = k
 
-left-known : {S : Steps} {X : Loops} (v l : ℕ) (a : Answer) → Known S X → Known S (left-loops a v l X)
-left-known v l done k = record { loops = λ u m x. k .loops u m (x .0); member = λ u m. apart-too (k .member u m) v l u m }
-left-known v l (refused-51 p q) k = k
-left-known v l (refused-52 p q r) k = k
-
-pub plain-answers : {size top : ℕ} {S : Steps} → Formed size S → Listed top S → {X : Loops} → Known S X → (cs : List (ℕ × ℕ)) → (ys : List Answer) × (Y : Loops) × PlainAll S X cs ys Y
+pub plain-answers : {size top : ℕ} {S : Steps} → Formed size S → Listed top S → {X : Loops} → DecidedLoops S X → (cs : List (ℕ × ℕ)) → (ys : List Answer) × (Y : Loops) × PlainAll S X cs ys Y
 plain-answers f g {X} k [] = ([], X, PlainAll.none)
 plain-answers {size} {top} f g {X} k ((v, l) ∷ cs) =
     let a : Answer = plainAnswer (listed-test f g) size top (λ w m. test-of (k .member w m)) v l in
-    let (ys, Y, ps) = plain-answers f g {X = left-loops a v l X} (left-known v l a k) cs in
-    (a ∷ ys, Y, PlainAll.call (plain-answer (listed-tests f g) f (g .label-below) (λ w m. decides-dec (k .member w m)) (k .loops) v l) ps)
+    let (ys, Y, ps) = plain-answers f g {X = left-loops a v l X} (left-decided v l a k) cs in
+    (a ∷ ys, Y, PlainAll.call (plain-answer (listed-tests f g) f (g .label-below) (λ w m. decides-dec (k .member w m)) (k .loops) v l) (λ u m. Iff·rfl) ps)

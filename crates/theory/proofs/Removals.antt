@@ -1,23 +1,19 @@
 -- A list of removals over a chart that passed answers, and leaves, what the plain set does.
 use mathlib.Core.Path.{_≡_, refl, sym, _∙_, ap₂, subst}
-use mathlib.Core.Logic.{_≢_, _⊎_, inl, inr, _↔_}
-use mathlib.Core.List.{List, [], _∷_}
-use Prim.Native.Nat.{ℕ, zero, suc, _<_}
+use mathlib.Core.Logic.{_⊎_, inl, inr, ⊎-elim, _↔_, Iff·symm, Iff·trans}
+use mathlib.Core.List.{List, _∷_}
+use Prim.Native.Nat.{ℕ}
 use native.Mathlib.Omega.{arith}
 use native.Mathlib.Decide.{ℕ-discrete}
 use Rattle.theory.specs.Paths.{Star, Endless, Returns}
-use Rattle.theory.specs.Charts.{Steps, Formed, Any, Loop}
-use Rattle.theory.specs.LoopCharts.{Around, LoopChart}
+use Rattle.theory.specs.Charts.{Steps, SameSteps, Formed, Loop}
+use Rattle.theory.specs.LoopCharts.{Around}
 use Rattle.theory.specs.Checks.{Passed}
-use Rattle.theory.specs.Standing.{Loops, Standing, Inside}
+use Rattle.theory.specs.Standing.{Loops, SameLoops, Standing, Agree}
 use Rattle.theory.specs.Removals.{Answer, done, refused-51, refused-52, Removes, Plain, left-steps, left-loops, RemovesAll, PlainAll}
 use Rattle.theory.proofs.Paths.{endless-map}
 use Rattle.theory.proofs.Rounds.{round-map, loop-chart-map}
 use Rattle.theory.proofs.Removal.{taken-L1, inside-not-L2, taken-loop-chart}
-
--- R is what stands of S while the loops of X remain
-abbrev pub Agree : Steps → Loops → Steps → Type 0
-Agree S X R = (u l w : ℕ) → R u l w ↔ Standing S X u l w
 
 -- at first all transitions stand and all loops remain
 pub agree-at-first : (S : Steps) → Agree S (Loop S) S
@@ -95,10 +91,25 @@ pub one-answer : {R : Steps} {v l : ℕ} {a b : Answer} → Removes R v l a → 
 unfolding One
 one-answer {a = a} {b = b} p q = else-one _ _ _ (else-one _ _ _ (else-one _ _ _ (else-one _ _ (λ c. c ≡ done) (λ c d e f. e ∙ sym f)))) a b (chain-of p) (chain-of q)
 
+-- SETS WITH THE SAME MEMBERS agree alike
+module _ (S : Steps) {X Y : Loops} (same : SameLoops Y X) where
+  pub standing-same : SameSteps (Standing S Y) (Standing S X)
+  standing-same u l w = (
+    (λ (e, c). (e, ⊎-elim inl (λ y. inr (same u l .0 y)) c)),
+    (λ (e, c). (e, ⊎-elim inl (λ x. inr (same u l .1 x)) c)),
+  )
+
+  pub agree-same : {R Q : Steps} → SameSteps Q R → Agree S X R → Agree S Y Q
+  agree-same q agree u l w = Iff·trans (q u l w) (Iff·trans (agree u l w) (Iff·symm (standing-same u l w)))
+
 -- THE LIST CLAIM: over a chart that passed, from where R is what stands while the loops of X remain
-pub removals-agree : {size : ℕ} {S : Steps} → Formed size S → Passed S → {X Y : Loops} {R Q : Steps} → ((v l : ℕ) → X v l → Loop S v l) → Agree S X R → {cs : List (ℕ × ℕ)} {xs ys : List Answer} → RemovesAll R cs xs Q → PlainAll S X cs ys Y → (xs ≡ ys) × Agree S Y Q
+pub removals-agree : {size : ℕ} {S : Steps} → Formed size S → Passed S → {X Y : Loops} {R Q : Steps}
+    → ((v l : ℕ) → X v l → Loop S v l) → Agree S X R → {cs : List (ℕ × ℕ)} {xs ys : List Answer}
+    → RemovesAll R cs xs Q → PlainAll S X cs ys Y → (xs ≡ ys) × Agree S Y Q
 removals-agree f c loops agree RemovesAll.none PlainAll.none = (refl, agree)
-removals-agree {S = S} f c {X = X} {Y = Y} {R = R} {Q = Q} loops agree (RemovesAll.call {v = v} {l = l} {a = a} {cs = cs} {answers = xs} p ps) (PlainAll.call {a = b} {answers = ys} q qs) =
+removals-agree {S = S} f c {X = X} {Y = Y} {R = R} {Q = Q} loops agree (RemovesAll.call {Q = R′} {v = v} {l = l} {a = a} {answers = xs} p left ps) (PlainAll.call {Y = X′} {a = b} {answers = ys} q stay qs) =
     let e : a ≡ b = one-answer p (rule-of f c loops agree v l q) in
-    let r : (xs ≡ ys) × Agree S Y Q = removals-agree f c (left-loops-are f c loops agree v l b) (left-agree f c loops agree v l b q) (subst (λ (z : Answer). RemovesAll (left-steps z v l R) cs xs Q) e ps) qs in
+    let left′ : SameSteps R′ (left-steps b v l R) = subst (λ (z : Answer). SameSteps R′ (left-steps z v l R)) e left in
+    let here : Agree S X′ R′ = agree-same S stay left′ (left-agree f c loops agree v l b q) in
+    let r : (xs ≡ ys) × Agree S Y Q = removals-agree f c (λ u m x. left-loops-are f c loops agree v l b u m (stay u m .0 x)) here ps qs in
     (ap₂ _∷_ e (r .0), r .1)

@@ -1,11 +1,11 @@
 -- The chart of a loop: its transitions by cases, its body, and L1, L2, L3 by reachability and cycles.
-use mathlib.Core.Path.{_≡_, refl, sym, subst}
+use mathlib.Core.Path.{_≡_, refl, subst}
 use mathlib.Core.Logic.{_≢_, _⊎_, inl, inr, ⊎-elim, _↔_}
 use Prim.Native.Nat.{ℕ, _<_}
-use Rattle.theory.specs.Paths.{Edges, Star, here, step, Plus, last, more, Endless, Returns, Avoid}
+use Rattle.theory.specs.Paths.{Edges, Star, Plus, Endless, Returns, Avoid, Straying}
 use Rattle.theory.specs.LoopCharts.{Round, entry, other, LoopChart, Reached, Stray}
-use Rattle.theory.proofs.Paths.{star-map, plus-map, endless-map, star-plus, plus-star, plus-of, plus-first, star-cases, star-apart, last-visit, not-avoid}
-use Rattle.theory.proofs.Cycles.{Straying, L1-iff, L2-iff}
+use Rattle.theory.proofs.Paths.{star-map, plus-map, endless-map, plus-star, plus-of, plus-first, star-cases, star-apart, last-visit, not-avoid}
+use Rattle.theory.proofs.Cycles.{L1-iff, L2-iff}
 
 module _ {v : ℕ} {Entry : ℕ → Type 0} {Other : Edges} where
   -- what a transition of the loop's chart is, by where it begins

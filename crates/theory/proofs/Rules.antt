@@ -1,20 +1,16 @@
 -- The expression's chart is bisimilar to the published rules on the expression: each vertex with what it stands for.
-use Prim.Native.Nat.{ℕ, zero, suc, _≤_}
+use Prim.Native.Nat.{ℕ, zero, suc}
 use mathlib.Core.Path.{_≡_, refl, ap, sym, _∙_}
 use mathlib.Core.List.{List·Memᴰ}
 use native.Mathlib.Omega.{arith}
 use Rattle.theory.specs.Expressions.{Target, end, to}
 use Rattle.theory.specs.Systems.{Bisimulation}
 use Rattle.theory.specs.Rules.{Derives, by-rules, rules}
-use Rattle.theory.specs.Nodes.{Node, expr, residual, meaning, Tree}
+use Rattle.theory.specs.Nodes.{Node, expr, residual, meaning, Means, Tree}
 use Rattle.theory.specs.Transitions.{chart}
 use Rattle.theory.specs.ExpressionCharts.{transitions}
 use Rattle.theory.proofs.ExpressionCharts.{residual-of-start, chart-sound, chart-complete}
 use Rattle.theory.proofs.Bounds.{transition-bounds}
-
--- a vertex and what it stands for
-abbrev pub Means : (ℕ → Node) → ℕ → ℕ → Target → Type 0
-Means nd n v ξ = (v ≤ n) × (meaning nd n v ≡ ξ)
 
 module _ (nd : ℕ → Node) (n : ℕ) (tree : Tree nd n) where
   -- vertex 0 alone stands for the end

@@ -1,14 +1,14 @@
 -- Tests put together decide statements put together.
 use mathlib.Core.Path.{_≡_, refl, sym, _∙_, subst}
-use mathlib.Core.Logic.{_≢_, _⊎_, inl, inr, ⊎-elim, _↔_}
+use mathlib.Core.Logic.{_⊎_, inl, inr, ⊎-elim, _↔_}
 use mathlib.Core.Bool.{Bool, true, false, cond, _&&_, _||_, not, false≢true}
-use Prim.Native.Nat.{ℕ, zero, suc, _+_, _≤_, _<_}
+use Prim.Native.Nat.{ℕ, zero, suc, _≤_, _<_}
 use native.Mathlib.Omega.{arith}
 use native.Mathlib.Decide.{ℕ-discrete}
 use lib.Dec.{eqb, ltb, leb}
 use borrow.Author.Tests.{eqb-true, eq-eqb, ltb-true, lt-ltb, leb-true, le-leb}
-use Rattle.theory.specs.Least.{Least, Earlier, FirstPair}
-use Rattle.theory.specs.Tests.{Decides, someBelow, lowest, firstRow}
+use Rattle.theory.specs.Least.{Least, FirstPair}
+use Rattle.theory.specs.Tests.{Decides, someBelow, lowest, Stops, firstRow}
 
 pub decided : {b : Bool} {P : Type 0} → Decides b P → Dec P
 decided {b} {P} d = go b d
@@ -106,13 +106,6 @@ decides-below {p} {P} d (suc n) = decides-same (to, from) (decides-or (d n) (dec
     from : (k : ℕ) × (k < suc n) × P k → P n ⊎ ((k : ℕ) × (k < n) × P k)
     from (k, h, q) = elim (ℕ-discrete k n) [ yes e ↦ inl (subst P e q) | no e ↦ inr (k, omega arith, q) ]
 
--- where the search stops: at the lowest that passes, or past all of them
-pub record Stops (p : ℕ → Bool) (i n r : ℕ) : Type 0 where
-  pub from : i ≤ r
-  pub within : r ≤ i + n
-  pub passes : r < i + n → p r ≡ true
-  pub below : (k : ℕ) → i ≤ k → k < r → p k ≡ false
-
 pub lowest-stops : (p : ℕ → Bool) (i n : ℕ) → Stops p i n (lowest p i n)
 unfolding lowest
 lowest-stops p i zero = record { from = omega arith; within = omega arith; passes = λ h. absurd (omega arith); below = λ k a b. absurd (omega arith) }
@@ -126,15 +119,6 @@ lowest-stops p i (suc n) = go (p i) refl (lowest-stops p (suc i) n)
       passes = λ h. s .passes (omega arith);
       below = λ k a b. elim (ℕ-discrete k i) [ yes q ↦ rw q e | no q ↦ s .below k (omega arith) b ];
     }
-
--- where a search stops is determined
-pub one-stop : {p : ℕ → Bool} {i n r s : ℕ} → Stops p i n r → Stops p i n s → r ≡ s
-one-stop {p} {i} {n} {r} {s} a b = go (ltb r s) (ltb s r) refl refl
-  where
-    go : (x y : Bool) → ltb r s ≡ x → ltb s r ≡ y → r ≡ s
-    go true y e f = absurd (false≢true (sym (b .below r (a .from) (ltb-true r s e)) ∙ a .passes (omega (arith, ltb-true r s e, b .within))))
-    go false true e f = absurd (false≢true (sym (a .below s (b .from) (ltb-true s r f)) ∙ b .passes (omega (arith, ltb-true s r f, a .within))))
-    go false false e f = let g : ¬ (r < s) = not-so (decides-ltb r s) e in let h : ¬ (s < r) = not-so (decides-ltb s r) f in omega arith
 
 -- the lowest with P, or none has it
 pub stops-least : {p : ℕ → Bool} {P : ℕ → Type 0} → ((k : ℕ) → Decides (p k) (P k)) → {n r : ℕ} → Stops p 0 n r → (r < n → Least P r) × (n ≤ r → (k : ℕ) → k < n → ¬ P k)

@@ -9,6 +9,7 @@ use native.Mathlib.Omega.{arith}
 use lib.Dec.{eqb}
 use borrow.Author.Tests.{eq-eqb, ne-eqb, eqb-true}
 use Rattle.theory.specs.Nodes.{Op, op-sum, op-product, op-star, Node, bad, dead, leaf, bin, Up, top, on, over, aboveLeft, upIn, up, one, usesIn, uses, follow, riseF, rise, after, Tree}
+use Rattle.theory.specs.Recursions.{Parent, LocalUp}
 
 -- a node that does not have j as an operand leaves what is above j, and one that does settles it
 unused : (k : ℕ) (v : Node) (j : ℕ) (u : Up) → usesIn v j ≡ 0 → upIn k v j u ≡ u
@@ -71,20 +72,10 @@ left-ok nd m l r op-sum e h u = (h, omega arith, u)
 left-ok nd m l r op-product e h u = (h, omega arith, u, inr (l, e))
 left-ok nd m l r op-star e h u = (h, omega arith, u, inl refl)
 
--- q is the node to climb on from
-abbrev pub Parent : Up → ℕ → Type 0
-Parent top q = ⊥
-Parent (on p) q = p ≡ q
-Parent (over r p) q = p ≡ q
-
 parent-ok : (nd : ℕ → Node) (j m : ℕ) (u : Up) (q : ℕ) → Ok nd j m u → Parent u q → (j < q) × (q < m) × (0 < usesIn (nd q) j)
 parent-ok nd j m top q i e = absurd e
 parent-ok nd j m (on p) q i e = rw (← e) (i .0, i .1, i .2)
 parent-ok nd j m (over r p) q i e = rw (← e) (i .0, i .1, i .2)
-
--- an algebra reads nothing but the parent
-unfoldable pub LocalUp : {A : Type 0} → (ℕ → Up → (ℕ → A) → A) → Type 0
-LocalUp {A} alg = (j : ℕ) (u : Up) (x y : ℕ → A) → ((q : ℕ) → Parent u q → x q ≡ y q) → alg j u x ≡ alg j u y
 
 follow-local : LocalUp (λ i. follow)
 unfolding LocalUp

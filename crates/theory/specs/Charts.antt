@@ -1,4 +1,5 @@
--- Charts with a loop labelling (001, sections 2 and 3), as relations. Actions play no part in what a labelling is held to.
+-- Charts with a loop labelling (001, sections 2 and 3), as relations. Actions play no part in a labelling.
+use mathlib.Core.Logic.{_↔_}
 use Prim.Native.Nat.{ℕ, _<_}
 use Rattle.theory.specs.Paths.{Edges}
 
@@ -15,6 +16,10 @@ pub record Formed (size : ℕ) (S : Steps) : Type 0 where
 pub record Listed (top : ℕ) (S : Steps) : Type 0 where
   pub label-below : (u l w : ℕ) → S u l w → l < top
   pub decide : (u l w : ℕ) → Dec (S u l w)
+
+-- the same transitions
+abbrev pub SameSteps : Steps → Steps → Type 0
+SameSteps R S = (u l w : ℕ) → R u l w ↔ S u l w
 
 -- transitions whatever their label
 abbrev pub Any : Steps → Edges

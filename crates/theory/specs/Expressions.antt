@@ -1,4 +1,4 @@
--- Star expressions without the empty step, with binary star, and the steps that the seven rules derive (001, section 2).
+-- Star expressions with binary star and no empty step, and the steps that the seven rules derive (001, section 2).
 use Prim.Native.Nat.{ℕ}
 
 pub data Expr : Type 0 where

@@ -21,19 +21,27 @@ pub data Answer : Type 0 where
   answer : Word → Bool → ℕ → Answer
   refused-53 : Answer
 
-abbrev pub Members : System → Type 1
-Members M = M .State → Type 0
+abbrev pub StateSet : System → Type 1
+StateSet M = M .State → Type 0
+
+-- the same members
+abbrev pub SameMembers : (M : System) → StateSet M → StateSet M → Type 0
+SameMembers M P Q = (x : M .State) → P x ↔ Q x
+
+-- a fresh start: the start alone
+abbrev pub Fresh : (M : System) → StateSet M
+Fresh M x = x ≡ M .start
 
 -- some member
-abbrev pub Some : (M : System) → Members M → Type 0
+abbrev pub Some : (M : System) → StateSet M → Type 0
 Some M P = (x : M .State) × P x
 
 -- the targets of an action from the members
-abbrev pub Next : (M : System) → Members M → ℕ → Members M
+abbrev pub Next : (M : System) → StateSet M → ℕ → StateSet M
 Next M P a y = (x : M .State) × P x × M .Step x a y
 
 -- the action has a target from some member
-abbrev pub Offered : (M : System) → Members M → ℕ → Type 0
+abbrev pub Offered : (M : System) → StateSet M → ℕ → Type 0
 Offered M P a = Some M (Next M P a)
 
 -- exactly n numbers have P
@@ -44,22 +52,24 @@ pub record Counted (P : ℕ → Type 0) (n : ℕ) : Type 0 where
   pub many : length which ≡ n
 
 -- what an answer says of the members, beside its word
-pub record Told (M : System) (P : Members M) (b : Bool) (n : ℕ) : Type 0 where
+pub record Told (M : System) (P : StateSet M) (b : Bool) (n : ℕ) : Type 0 where
   pub ends : (b ≡ true) ↔ ((x : M .State) × P x × M .End x)
   pub offers : Counted (Offered M P) n
 
 -- one call: the answer, and the members after it
-pub data Moves (M : System) (P : Members M) : Call → Answer → Members M → Type 1 where
-  restarts : {Q : Members M} {b : Bool} {n : ℕ} → ((x : M .State) → Q x ↔ (x ≡ M .start)) → Told M Q b n → Moves M P restart (answer taken b n) Q
-  takes : {a : ℕ} {Q : Members M} {b : Bool} {n : ℕ} → Offered M P a → ((x : M .State) → Q x ↔ Next M P a x) → Told M Q b n → Moves M P (event a) (answer taken b n) Q
-  keeps : {a : ℕ} {Q : Members M} {b : Bool} {n : ℕ} → Some M P → ¬ Offered M P a → ((x : M .State) → Q x ↔ P x) → Told M Q b n → Moves M P (event a) (answer not-possible b n) Q
-  refuses : {a : ℕ} {Q : Members M} → ¬ Some M P → ((x : M .State) → Q x ↔ P x) → Moves M P (event a) refused-53 Q
+pub data Moves (M : System) (P : StateSet M) : Call → Answer → StateSet M → Type 1 where
+  restarts : {Q : StateSet M} {b : Bool} {n : ℕ} → SameMembers M Q (Fresh M) → Told M Q b n
+      → Moves M P restart (answer taken b n) Q
+  takes : {a : ℕ} {Q : StateSet M} {b : Bool} {n : ℕ}
+      → Offered M P a → SameMembers M Q (Next M P a) → Told M Q b n
+      → Moves M P (event a) (answer taken b n) Q
+  keeps : {a : ℕ} {Q : StateSet M} {b : Bool} {n : ℕ}
+      → Some M P → ¬ Offered M P a → SameMembers M Q P → Told M Q b n
+      → Moves M P (event a) (answer not-possible b n) Q
+  refuses : {a : ℕ} {Q : StateSet M} → ¬ Some M P → SameMembers M Q P → Moves M P (event a) refused-53 Q
 
 -- a list of calls, each on the members that the one before left, and their answers
-pub data Follows (M : System) : Members M → List Call → List Answer → Type 1 where
-  none : {P : Members M} → Follows M P [] []
-  call : {P Q : Members M} {c : Call} {a : Answer} {cs : List Call} {answers : List Answer} → Moves M P c a Q → Follows M Q cs answers → Follows M P (c ∷ cs) (a ∷ answers)
-
--- a fresh start: the start alone
-abbrev pub Fresh : (M : System) → Members M
-Fresh M x = x ≡ M .start
+pub data Follows (M : System) : StateSet M → List Call → List Answer → Type 1 where
+  none : {P : StateSet M} → Follows M P [] []
+  call : {P Q : StateSet M} {c : Call} {a : Answer} {cs : List Call} {answers : List Answer}
+      → Moves M P c a Q → Follows M Q cs answers → Follows M P (c ∷ cs) (a ∷ answers)

@@ -1,5 +1,5 @@
--- The checks 31 to 35 as a test that runs, of any labelled chart whose transitions are tested by s: from, label, to. Vertices are
--- below size, labels below top.
+-- The checks 31 to 35 as a test that runs, of any labelled chart whose transitions are tested by s: from, label, to.
+-- Vertices are below size, labels below top.
 use mathlib.Core.Bool.{Bool, true, false, cond, _&&_, not}
 use mathlib.Core.List.{List}
 use Prim.Native.Nat.{ℕ, zero, suc}
@@ -52,7 +52,9 @@ module _ (s : StepTest) (size top : ℕ) where
   unfoldable pub loopOutcome : ℕ → ℕ → Outcome
   loopOutcome v l =
       let r = lowest (notLowerTest v l) 0 size in
-      cond (not (bodyTest v l v)) (no-return v l) (cond (bodyTest v l 0) (end-inside v l) (cond (ltb r size) (not-lower v l r) passes))
+      cond (not (bodyTest v l v)) (no-return v l)
+      (cond (bodyTest v l 0) (end-inside v l)
+      (cond (ltb r size) (not-lower v l r) passes))
 
   unfoldable pub failingTest : ℕ → ℕ → Bool
   failingTest v l = loopTest v l && failed (loopOutcome v l)

@@ -1,26 +1,33 @@
--- The definitions: 001's notions first, then what document 01 says by them.
+-- The definitions.
+-- THE MEANING: 001's notions, and what document 01 says by them. Charts, loops and labellings
 pub mod Paths
 pub mod Charts
 pub mod LoopCharts
 pub mod Witnesses
 pub mod Least
 pub mod Checks
+-- what stands while loops are taken out, removals and their orders
 pub mod Standing
 pub mod Removals
 pub mod Orders
+-- expressions, the rules, and the chart of an expression that is given as a table of nodes
 pub mod Systems
 pub mod Expressions
 pub mod Rules
 pub mod Ascending
 pub mod Transitions
-pub mod Derivatives
 pub mod Nodes
 pub mod ExpressionCharts
+-- relations and followers
+pub mod Relations
 pub mod Followers
-pub mod Runs
+-- THE TESTS, which run: each decides or lists what one of the above means, by a law
 pub mod Tests
 pub mod Reachability
 pub mod LabellingTests
-pub mod RemovalTests
-pub mod Relations
 pub mod RelationTests
+pub mod RemovalTests
+pub mod Derivatives
+pub mod Runs
+-- WHAT ONLY SERVES PROOFS
+pub mod Recursions

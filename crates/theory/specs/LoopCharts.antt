@@ -15,6 +15,10 @@ pub data Round (v : ℕ) (Entry : ℕ → Type 0) (Other : Edges) : ℕ → ℕ 
 abbrev pub InLoop : Steps → ℕ → ℕ → Edges
 InLoop S v l = Round v (S v l) (Branch S)
 
+-- w is in the body of the loop (v, l)
+abbrev pub InBody : Steps → ℕ → ℕ → ℕ → Type 0
+InBody S v l w = Plus (InLoop S v l) v w
+
 -- the chart of the loop (v, l) where the transitions R stand: its standing entries, then any standing transitions
 abbrev pub Around : Steps → ℕ → ℕ → Edges
 Around R v l = Round v (R v l) (Any R)

@@ -1,6 +1,6 @@
 -- A table of nodes as a function from a node's number to what stands there; what is read off it by going down (the
 -- expression of a node, its first actions) and by climbing (what remains after a node).
-use Prim.Native.Nat.{ℕ, zero, suc, _+_, _<_}
+use Prim.Native.Nat.{ℕ, zero, suc, _+_, _<_, _≤_}
 use mathlib.Core.Path.{_≡_}
 use mathlib.Core.Bool.{Bool, true, false, cond}
 use mathlib.Core.List.{List, [], _∷_, _++_, map, foldl}
@@ -17,7 +17,8 @@ pub data Node : Type 0 where
   leaf : ℕ → Node
   bin : Op → ℕ → ℕ → Node
 
--- GOING DOWN. The answer at a node from its number, what stands there and the answers at other nodes, with a fuel that bounds the depth
+-- GOING DOWN. The answer at a node from its number, what stands there and the answers at other nodes, with a fuel that
+-- bounds the depth
 unfoldable pub downF : {A : Type 0} → (ℕ → Node → (ℕ → A) → A) → A → (ℕ → Node) → ℕ → ℕ → A
 downF alg none nd zero k = none
 downF alg none nd (suc f) k = alg k (nd k) (downF alg none nd f)
@@ -41,7 +42,7 @@ exprAlg k (bin o l r) x = grow o (x l) (x r)
 unfoldable pub expr : (ℕ → Node) → ℕ → Expr
 expr nd k = down exprAlg deadlock nd k
 
--- the action leaves that a node can do first: for sum and star those of both operands, for product those of the left one
+-- the leaves that a node can do first: for sum and star those of both operands, for product those of the left one
 abbrev pub join : Op → List ℕ → List ℕ → List ℕ
 join op-sum a b = a ++ b
 join op-product a b = a
@@ -62,8 +63,8 @@ pub data Up : Type 0 where
   on : ℕ → Up
   over : ℕ → ℕ → Up
 
--- above the left operand of node k, whose operator and right operand are given: from the left of a product go to its right
--- operand, from the left of a star to that star
+-- above the left operand of node k, whose operator and right operand are given: from the left of a product go to its
+-- right operand, from the left of a star to that star
 abbrev pub aboveLeft : Op → ℕ → ℕ → Up
 aboveLeft op-sum k r = on k
 aboveLeft op-product k r = over r k
@@ -102,7 +103,7 @@ follow top x = []
 follow (on p) x = x p
 follow (over r p) x = r ∷ x p
 
--- with a fuel, as in going down: the answer at a node from its number, what stands above it, and the answers at higher nodes
+-- with a fuel, as in going down: the answer at a node from its number, what stands above it and the answers higher up
 unfoldable pub riseF : {A : Type 0} → (ℕ → Up → (ℕ → A) → A) → A → (ℕ → Node) → ℕ → ℕ → ℕ → A
 riseF alg none nd n zero j = none
 riseF alg none nd n (suc f) j = alg j (up nd n j) (riseF alg none nd n f)
@@ -125,7 +126,26 @@ abbrev pub meaning : (ℕ → Node) → ℕ → ℕ → Target
 meaning nd n zero = end
 meaning nd n (suc k) = to (residual nd n k)
 
--- a table of n nodes in which operands are lower than the node and every node but the last is an operand exactly once
+-- the relation of a vertex to what it stands for
+abbrev pub Means : (ℕ → Node) → ℕ → ℕ → Target → Type 0
+Means nd n v ξ = (v ≤ n) × (meaning nd n v ≡ ξ)
+
+-- LEAVES. Node j is below n and does an action; an action that some leaf does
+abbrev pub IsLeaf : (ℕ → Node) → ℕ → ℕ → Type 0
+IsLeaf nd n j = (a : ℕ) × (nd j ≡ leaf a) × (j < n)
+
+abbrev pub LeafAction : (ℕ → Node) → ℕ → ℕ → Type 0
+LeafAction nd n a = (j : ℕ) × (j < n) × (nd j ≡ leaf a)
+
+-- w at a leaf, 0 elsewhere
+abbrev pub atLeaf : Node → ℕ → ℕ
+atLeaf bad w = 0
+atLeaf dead w = 0
+atLeaf (leaf a) w = w
+atLeaf (bin o l r) w = 0
+
+-- TREES. A table of n nodes in which operands are lower than the node, and every node but the last is an operand
+-- exactly once
 pub record Tree (nd : ℕ → Node) (n : ℕ) : Type 0 where
   pub low : (k : ℕ) (o : Op) (l r : ℕ) → k < n → nd k ≡ bin o l r → (l < k) × (r < k)
   pub once : (j : ℕ) → suc j < n → uses nd n j ≡ 1

@@ -30,3 +30,7 @@ Returns E v = (p : Endless E v) → (k : ℕ) × (p .at (suc k) ≡ v)
 -- the transitions of E that do not leave v
 abbrev pub Avoid : ℕ → Edges → Edges
 Avoid v E u w = (u ≢ v) × E u w
+
+-- a cycle, reached from v, that does not go through v
+abbrev pub Straying : Edges → ℕ → Type 0
+Straying E v = (w : ℕ) × Star E v w × Plus (Avoid v E) w w

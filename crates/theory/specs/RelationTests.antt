@@ -1,4 +1,4 @@
--- The checks 42 to 45 as a test that runs: t tests the relation, whose rows are below rows and whose columns are below columns.
+-- The checks 42 to 45 as a test that runs: t tests the relation; its rows are below rows, its columns below columns.
 use mathlib.Core.Bool.{Bool, true, false, cond, _&&_, not}
 use Prim.Native.Nat.{ℕ}
 use lib.Dec.{eqb, ltb}
@@ -9,7 +9,8 @@ abbrev pub RelationTest : Type 0
 RelationTest = ℕ → ℕ → Bool
 
 unfoldable pub matchedTest : (M N : Indexed) → RelationTest → ℕ → ℕ → Bool
-matchedTest M N t v i = someBelow (λ j. eqb (N .from j) v && (eqb (N .action j) (M .action i) && t (M .to i) (N .to j))) (N .count)
+matchedTest M N t v i =
+    someBelow (λ j. eqb (N .from j) v && (eqb (N .action j) (M .action i) && t (M .to i) (N .to j))) (N .count)
 
 unfoldable pub unmatchedTest : (M N : Indexed) → RelationTest → ℕ → ℕ → ℕ → Bool
 unmatchedTest M N t u v i = eqb (M .from i) u && not (matchedTest M N t v i)
@@ -31,7 +32,9 @@ module _ (M N : Indexed) (t : RelationTest) where
   pairOutcome u v =
       let i = lowest (unmatchedTest M N t u v) 0 (M .count) in
       let j = lowest (unmatchedTest N M (λ y x. t x y) v u) 0 (N .count) in
-      cond (not (same (eqb u 0) (eqb v 0))) (ends-apart u v) (cond (ltb i (M .count)) (left-unmatched u v i) (cond (ltb j (N .count)) (right-unmatched u v j) related))
+      cond (not (same (eqb u 0) (eqb v 0))) (ends-apart u v)
+      (cond (ltb i (M .count)) (left-unmatched u v i)
+      (cond (ltb j (N .count)) (right-unmatched u v j) related))
 
   unfoldable pub failingPair : ℕ → ℕ → Bool
   failingPair u v = t u v && pairFailed (pairOutcome u v)
@@ -40,4 +43,5 @@ module _ (M N : Indexed) (t : RelationTest) where
   unfoldable pub relationOutcome : ℕ → ℕ → RelationOutcome
   relationOutcome rows columns =
       let u = firstRow failingPair rows columns in
-      cond (not (t (M .start) (N .start))) starts-apart (cond (ltb u rows) (pairOutcome u (lowest (failingPair u) 0 columns)) related)
+      cond (not (t (M .start) (N .start))) starts-apart
+      (cond (ltb u rows) (pairOutcome u (lowest (failingPair u) 0 columns)) related)

@@ -3,7 +3,7 @@ use mathlib.Core.Path.{_≡_}
 use mathlib.Core.Logic.{_↔_}
 use Prim.Native.Nat.{ℕ, _<_}
 use Rattle.theory.specs.Least.{Least, Earlier}
-use Rattle.theory.specs.Systems.{System}
+use Rattle.theory.specs.Systems.{System, converse}
 
 -- a chart whose transitions have an index
 pub record Indexed : Type 0 where
@@ -30,16 +30,17 @@ Matched M N R v i = (j : ℕ) × (j < N .count) × (N .from j ≡ v) × (N .acti
 abbrev pub Unmatched : (M N : Indexed) → (ℕ → ℕ → Type 0) → ℕ → ℕ → ℕ → Type 0
 Unmatched M N R u v i = (i < M .count) × (M .from i ≡ u) × (¬ Matched M N R v i)
 
--- the relation the other way round
-abbrev pub converse : (ℕ → ℕ → Type 0) → ℕ → ℕ → Type 0
-converse R y x = R x y
-
+-- each transition of M that leaves u is matched
 abbrev pub AllMatched : (M N : Indexed) → (ℕ → ℕ → Type 0) → ℕ → ℕ → Type 0
 AllMatched M N R u v = (i : ℕ) → i < M .count → M .from i ≡ u → Matched M N R v i
 
+-- 43: both are the end or neither is
+abbrev pub EndsAgree : ℕ → ℕ → Type 0
+EndsAgree u v = (u ≡ 0) ↔ (v ≡ 0)
+
 -- checks 43, 44 and 45 of one pair: both the end or neither; each transition of the one matched, and of the other
 pub record PairPasses (M N : Indexed) (R : ℕ → ℕ → Type 0) (u v : ℕ) : Type 0 where
-  pub c43 : (u ≡ 0) ↔ (v ≡ 0)
+  pub c43 : EndsAgree u v
   pub c44 : AllMatched M N R u v
   pub c45 : AllMatched N M (converse R) v u
 
@@ -53,12 +54,18 @@ pub data RelationOutcome : Type 0 where
 
 -- one pair fails, in the order 43, 44, 45
 pub data PairFails (M N : Indexed) (R : ℕ → ℕ → Type 0) (u v : ℕ) : RelationOutcome → Type 0 where
-  fails-43 : ¬ ((u ≡ 0) ↔ (v ≡ 0)) → PairFails M N R u v (ends-apart u v)
-  fails-44 : {r : ℕ} → (u ≡ 0) ↔ (v ≡ 0) → Least (Unmatched M N R u v) r → PairFails M N R u v (left-unmatched u v r)
-  fails-45 : {r : ℕ} → (u ≡ 0) ↔ (v ≡ 0) → AllMatched M N R u v → Least (Unmatched N M (converse R) v u) r → PairFails M N R u v (right-unmatched u v r)
+  fails-43 : ¬ EndsAgree u v → PairFails M N R u v (ends-apart u v)
+  fails-44 : {r : ℕ} → EndsAgree u v → Least (Unmatched M N R u v) r → PairFails M N R u v (left-unmatched u v r)
+  fails-45 : {r : ℕ} → EndsAgree u v → AllMatched M N R u v → Least (Unmatched N M (converse R) v u) r
+      → PairFails M N R u v (right-unmatched u v r)
+
+-- every related pair before (u, v), by row and then by column, passes
+abbrev pub EarlierPairsPass : (M N : Indexed) → (ℕ → ℕ → Type 0) → ℕ → ℕ → Type 0
+EarlierPairsPass M N R u v = (a b : ℕ) → Earlier a b u v → R a b → PairPasses M N R a b
 
 -- the answer of the checks: the starts, then the first pair that fails, by row and then by column
 pub data RelationChecked (M N : Indexed) (R : ℕ → ℕ → Type 0) : RelationOutcome → Type 0 where
   all-pass : R (M .start) (N .start) → ((u v : ℕ) → R u v → PairPasses M N R u v) → RelationChecked M N R related
   fails-42 : ¬ R (M .start) (N .start) → RelationChecked M N R starts-apart
-  fails-pair : {u v : ℕ} {o : RelationOutcome} → R (M .start) (N .start) → R u v → ((a b : ℕ) → Earlier a b u v → R a b → PairPasses M N R a b) → PairFails M N R u v o → RelationChecked M N R o
+  fails-pair : {u v : ℕ} {o : RelationOutcome} → R (M .start) (N .start)
+      → R u v → EarlierPairsPass M N R u v → PairFails M N R u v o → RelationChecked M N R o

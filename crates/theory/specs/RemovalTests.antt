@@ -13,9 +13,13 @@ module _ (r : StepTest) (size top : ℕ) where
   unfoldable pub aroundTest : ℕ → ℕ → ℕ → Bool
   aroundTest v l w = leadsTo (roundTest v (r v l) (anyTest r size top)) size v w
 
+  -- the standing transitions that do not leave v
+  abbrev pub avoidTest : ℕ → ℕ → ℕ → Bool
+  avoidTest v u x = not (eqb u v) && anyTest r size top u x
+
   -- a cycle is reached that does not go through v
   unfoldable pub strayTest : ℕ → ℕ → Bool
-  strayTest v l = someBelow (λ w. not (eqb w v) && (aroundTest v l w && leadsTo (λ u x. not (eqb u v) && anyTest r size top u x) size w w)) size
+  strayTest v l = someBelow (λ w. not (eqb w v) && (aroundTest v l w && leadsTo (avoidTest v) size w w)) size
 
   unfoldable pub ruleAnswer : ℕ → ℕ → Answer
   ruleAnswer v l =

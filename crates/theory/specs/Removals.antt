@@ -1,11 +1,12 @@
--- Taking out loops: the answer by the rule on standing transitions, the answer of a plain set of loops, and lists of calls of both.
+-- Taking out loops: the answer by the rule on standing transitions, the answer of a plain set of loops, and lists of
+-- calls of both.
 use mathlib.Core.Path.{_≡_}
-use mathlib.Core.List.{List, [], _∷_}
+use mathlib.Core.List.{List, [], _∷_, map}
 use Prim.Native.Nat.{ℕ}
 use Rattle.theory.specs.Paths.{Endless, Returns, Star}
-use Rattle.theory.specs.Charts.{Steps, Loop}
+use Rattle.theory.specs.Charts.{Steps, SameSteps, Loop}
 use Rattle.theory.specs.LoopCharts.{Around, LoopChart}
-use Rattle.theory.specs.Standing.{Loops, Inside}
+use Rattle.theory.specs.Standing.{Loops, SameLoops, Inside}
 
 -- with the places of document 01; r is the first of L1, L2, L3 that is broken
 pub data Answer : Type 0 where
@@ -19,7 +20,8 @@ pub data Removes (R : Steps) (v l : ℕ) : Answer → Type 0 where
   goes : Loop R v l → LoopChart (Around R v l) v → Removes R v l done
   breaks-L1 : Loop R v l → ¬ Endless (Around R v l) v → Removes R v l (refused-52 v l 1)
   breaks-L2 : Loop R v l → Endless (Around R v l) v → ¬ Returns (Around R v l) v → Removes R v l (refused-52 v l 2)
-  breaks-L3 : Loop R v l → Endless (Around R v l) v → Returns (Around R v l) v → Star (Around R v l) v 0 → Removes R v l (refused-52 v l 3)
+  breaks-L3 : Loop R v l → Endless (Around R v l) v → Returns (Around R v l) v → Star (Around R v l) v 0
+      → Removes R v l (refused-52 v l 3)
 
 -- what a plain set X of the loops of S answers
 pub data Plain (S : Steps) (X : Loops) (v l : ℕ) : Answer → Type 0 where
@@ -43,11 +45,20 @@ left-loops done v l X u m = X u m × Different v l u m
 left-loops (refused-51 p q) v l X u m = X u m
 left-loops (refused-52 p q r) v l X u m = X u m
 
--- the answers to a list of calls, each on what the one before left, and what stands after the list
+-- the answers to a list of calls, each on what the one before left, and what stands after the list. What is left is any
+-- relation with these transitions, so that bytes can be what is left
 pub data RemovesAll : Steps → List (ℕ × ℕ) → List Answer → Steps → Type 1 where
   none : {R : Steps} → RemovesAll R [] [] R
-  call : {R Q : Steps} {v l : ℕ} {a : Answer} {cs : List (ℕ × ℕ)} {answers : List Answer} → Removes R v l a → RemovesAll (left-steps a v l R) cs answers Q → RemovesAll R ((v, l) ∷ cs) (a ∷ answers) Q
+  call : {R Q Z : Steps} {v l : ℕ} {a : Answer} {cs : List (ℕ × ℕ)} {answers : List Answer}
+      → Removes R v l a → SameSteps Q (left-steps a v l R) → RemovesAll Q cs answers Z
+      → RemovesAll R ((v, l) ∷ cs) (a ∷ answers) Z
 
 pub data PlainAll (S : Steps) : Loops → List (ℕ × ℕ) → List Answer → Loops → Type 1 where
   none : {X : Loops} → PlainAll S X [] [] X
-  call : {X Y : Loops} {v l : ℕ} {a : Answer} {cs : List (ℕ × ℕ)} {answers : List Answer} → Plain S X v l a → PlainAll S (left-loops a v l X) cs answers Y → PlainAll S X ((v, l) ∷ cs) (a ∷ answers) Y
+  call : {X Y Z : Loops} {v l : ℕ} {a : Answer} {cs : List (ℕ × ℕ)} {answers : List Answer}
+      → Plain S X v l a → SameLoops Y (left-loops a v l X) → PlainAll S Y cs answers Z
+      → PlainAll S X ((v, l) ∷ cs) (a ∷ answers) Z
+
+-- no call of the list is refused
+abbrev pub all-done : List (ℕ × ℕ) → List Answer
+all-done cs = map (λ c. done) cs

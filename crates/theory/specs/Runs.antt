@@ -18,7 +18,12 @@ pub record Machine : Type 1 where
   pub moves : State → List (ℕ × State)
 
 abbrev pub system : Machine → System
-system M = record { State = M .State; start = M .start; End = λ x. M .isEnd x ≡ true; Step = λ x a y. List·Memᴰ (a, y) (M .moves x) }
+system M = record {
+  State = M .State;
+  start = M .start;
+  End = λ x. M .isEnd x ≡ true;
+  Step = λ x a y. List·Memᴰ (a, y) (M .moves x);
+}
 
 -- the targets of a among some moves, and among the members'
 abbrev pub pick : {A : Type 0} → ℕ → List (ℕ × A) → List A

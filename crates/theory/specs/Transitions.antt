@@ -1,8 +1,9 @@
 -- A chart given by the list of its transitions.
 use mathlib.Core.Path.{_≡_}
+use mathlib.Core.Logic.{_⊎_}
 use mathlib.Core.Bool.{Bool, _&&_, _||_}
 use mathlib.Core.List.{List, List·Memᴰ}
-use Prim.Native.Nat.{ℕ}
+use Prim.Native.Nat.{ℕ, _<_}
 use lib.Dec.{eqb, ltb}
 use Rattle.theory.specs.Systems.{System}
 
@@ -10,9 +11,13 @@ use Rattle.theory.specs.Systems.{System}
 abbrev pub Transition : Type 0
 Transition = ℕ × ℕ × ℕ
 
--- by from, then action, then to
+-- by from, then action, then to: as a statement, and tested
+abbrev pub Precedes : Transition → Transition → Type 0
+Precedes x y = (x .0 < y .0) ⊎ ((x .0 ≡ y .0) × ((x .1 < y .1) ⊎ ((x .1 ≡ y .1) × (x .2 < y .2))))
+
 unfoldable pub precedes : Transition → Transition → Bool
-precedes x y = ltb (x .0) (y .0) || (eqb (x .0) (y .0) && (ltb (x .1) (y .1) || (eqb (x .1) (y .1) && ltb (x .2) (y .2))))
+precedes x y =
+    ltb (x .0) (y .0) || (eqb (x .0) (y .0) && (ltb (x .1) (y .1) || (eqb (x .1) (y .1) && ltb (x .2) (y .2))))
 
 -- the chart with this start; vertex 0 is the end
 abbrev pub chart : ℕ → List Transition → System

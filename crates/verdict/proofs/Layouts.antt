@@ -7,7 +7,8 @@ use native.Mathlib.Omega.{arith}
 use lib.ListN.{length, getD, take, drop, length-append, length-drop, take-append-drop}
 use lib.Seq.{drop-cons, drop-drop, drop-at, take-at, length-take-le, getD-append-add, getD-at, drop-length}
 use Rattle.bits.specs.Bits.{Bytes}
-use Rattle.verdict.specs.Files.{twoBytes, recordOf, fileOf, pairAt, endAt, offsetOf, bodyAt, Fits, Whole}
+use Rattle.bits.specs.Packed.{twoAt}
+use Rattle.verdict.specs.Files.{twoBytes, recordOf, fileOf, endAt, offsetOf, bodyAt, RecordFits, Whole}
 
 -- a number of two bytes is its two bytes
 two-bytes : (x y : ℕ) → x < 256 → twoBytes (x + 256 * y) ≡ x ∷ y ∷ []
@@ -18,16 +19,16 @@ two-bytes x y h =
 
 -- READ: what a file holds from an offset on
 module _ (f : List ℕ) (bytes : Bytes f) where
-  pair-there : (at : ℕ) → at + 2 ≤ length f → drop at f ≡ twoBytes (pairAt f at) ++ drop (at + 2) f
+  pair-there : (at : ℕ) → at + 2 ≤ length f → drop at f ≡ twoBytes (twoAt f at) ++ drop (at + 2) f
   pair-there at h =
       let a : drop at f ≡ getD f at 0 ∷ drop (at + 1) f = rw (add-one at) (drop-cons f at 0 (omega arith)) in
       let two : at + 2 ≡ suc (at + 1) = omega arith in
       let b : drop (at + 1) f ≡ getD f (at + 1) 0 ∷ drop (at + 2) f = rw two (drop-cons f (at + 1) 0 (omega arith)) in
       a ∙ ap (λ (l : List ℕ). getD f at 0 ∷ l) b ∙ ap (λ (l : List ℕ). l ++ drop (at + 2) f) (sym (two-bytes (getD f at 0) (getD f (at + 1) 0) (bytes at)))
 
-  record-there : (kind at : ℕ) → Fits f kind at → drop at f ≡ recordOf kind (take (pairAt f at) (drop (at + 4) f)) ++ drop (endAt f at) f
+  record-there : (kind at : ℕ) → RecordFits f kind at → drop at f ≡ recordOf kind (take (twoAt f at) (drop (at + 4) f)) ++ drop (endAt f at) f
   record-there kind at s =
-      let n = pairAt f at in
+      let n = twoAt f at in
       let body = take n (drop (at + 4) f) in
       let long : length body ≡ n = length-take-le n (drop (at + 4) f) (rw (length-drop (at + 4) f) (omega (arith, s .body))) in
       let four : at + 2 + 2 ≡ at + 4 = omega arith in
@@ -56,23 +57,23 @@ module _ (f : List ℕ) (bytes : Bytes f) where
         ∙ ap (λ (l : List ℕ). recordOf 4 (bodyAt f 3) ++ l) nothing ∙ append-nil (recordOf 4 (bodyAt f 3)))))
 
 -- WRITTEN: what is read of a number, and of a record, after a prefix
-pair-after : (p q : List ℕ) (n at : ℕ) → length p ≡ at → pairAt (p ++ (twoBytes n ++ q)) at ≡ n
+pair-after : (p q : List ℕ) (n at : ℕ) → length p ≡ at → twoAt (p ++ (twoBytes n ++ q)) at ≡ n
 pair-after p q n at e =
     let a : getD (p ++ (twoBytes n ++ q)) at 0 ≡ n % 256 = getD-at p (n % 256) (n / 256 ∷ q) 0 at e in
     let b : getD (p ++ (twoBytes n ++ q)) (at + 1) 0 ≡ n / 256 = rw (← e) (getD-append-add p (twoBytes n ++ q) 1 0) in
     omega arith
 
 module _ (f p x q : List ℕ) (kind at : ℕ) (is : f ≡ p ++ (recordOf kind x ++ q)) (e : length p ≡ at) where
-  length-there : pairAt f at ≡ length x
+  length-there : twoAt f at ≡ length x
   length-there = rw is (pair-after p (twoBytes kind ++ (x ++ q)) (length x) at e)
 
-  kind-there : pairAt f (at + 2) ≡ kind
+  kind-there : twoAt f (at + 2) ≡ kind
   kind-there =
       let h = twoBytes (length x) in
       let z : f ≡ (p ++ h) ++ (twoBytes kind ++ (x ++ q)) = is ∙ sym (append-assoc p h (twoBytes kind ++ (x ++ q))) in
       rw z (pair-after (p ++ h) (x ++ q) kind (at + 2) (length-append p h ∙ rw e))
 
-  body-there : take (pairAt f at) (drop (at + 4) f) ≡ x
+  body-there : take (twoAt f at) (drop (at + 4) f) ≡ x
   body-there =
       let h = twoBytes (length x) ++ twoBytes kind in
       let z : f ≡ (p ++ h) ++ (x ++ q) = is ∙ sym (append-assoc p h (x ++ q)) in
@@ -82,7 +83,7 @@ module _ (f p x q : List ℕ) (kind at : ℕ) (is : f ≡ p ++ (recordOf kind x 
   end-there : endAt f at ≡ length (p ++ recordOf kind x)
   end-there = let a = length-there in let b = length-append p (recordOf kind x) in omega arith
 
-  fits-there : Fits f kind at
+  fits-there : RecordFits f kind at
   fits-there =
       let l : length f ≡ length (p ++ recordOf kind x) + length q = ap length (is ∙ sym (append-assoc p (recordOf kind x) q)) ∙ length-append (p ++ recordOf kind x) q in
       let g : endAt f at ≤ length f = omega (arith, end-there) in
@@ -90,7 +91,7 @@ module _ (f p x q : List ℕ) (kind at : ℕ) (is : f ≡ p ++ (recordOf kind x 
 
 -- x is the body of record k, from 0, where p is all before it
 record Placed (f : List ℕ) (k : ℕ) (p x : List ℕ) : Type 0 where
-  fits : Fits f (suc k) (offsetOf f k)
+  fits : RecordFits f (suc k) (offsetOf f k)
   body-is : bodyAt f k ≡ x
   next : length (p ++ recordOf (suc k) x) ≡ offsetOf f (suc k)
 
@@ -128,7 +129,7 @@ layout-whole a b c d short =
       D .body-is,
     )
   where
-    each-of : (f : List ℕ) → Fits f 1 (offsetOf f 0) → Fits f 2 (offsetOf f 1) → Fits f 3 (offsetOf f 2) → Fits f 4 (offsetOf f 3) → (k : ℕ) → k < 4 → Fits f (suc k) (offsetOf f k)
+    each-of : (f : List ℕ) → RecordFits f 1 (offsetOf f 0) → RecordFits f 2 (offsetOf f 1) → RecordFits f 3 (offsetOf f 2) → RecordFits f 4 (offsetOf f 3) → (k : ℕ) → k < 4 → RecordFits f (suc k) (offsetOf f k)
     each-of f a b c d zero h = a
     each-of f a b c d (suc zero) h = b
     each-of f a b c d (suc (suc zero)) h = c

@@ -4,6 +4,8 @@ use mathlib.Core.Logic.{_≢_, _↔_}
 use mathlib.Core.List.{List}
 use Prim.Native.Nat.{ℕ}
 use native.Mathlib.Omega.{arith}
+use Rattle.report.specs.declared.Labelled.{Labelled}
+use Rattle.report.specs.declared.Labelled.the-variants as labelled
 use Rattle.report.specs.declared.Place.{Place}
 use Rattle.report.specs.declared.Stage.{Stage}
 use Rattle.report.specs.declared.Stage.the-variants as stage
@@ -13,12 +15,10 @@ use Rattle.chart.specs.Bodies.{verticesOf, countOf}
 use Rattle.chart.specs.Checks as chart
 use Rattle.expression.specs.Table as expression
 use Rattle.expression.specs.Body.{bodyOf}
-use Rattle.witness.specs.declared.Labelled.{Labelled}
-use Rattle.witness.specs.declared.Labelled.the-variants as labelled
 use Rattle.witness.specs.Labellings.{labelledOf}
 use Rattle.bisimulation.specs.Relations.{relationOf}
-use Rattle.verdict.specs.Files.{andThen, recordsOf}
-use Rattle.verdict.specs.Verdicts.{nodesIn, chartIn, labelsIn, relationIn, bodiesOf, counted, labellingOf, unless, loopsOf, after, verdictOf, Fails, records-fail, nodes-fail, chart-fails, labels-fail, relation-fails}
+use Rattle.verdict.specs.Files.{recordsOf}
+use Rattle.verdict.specs.Verdicts.{nodesIn, chartIn, labelsIn, relationIn, onPass, onLoops, accepted, verdictOf, Fails, records-fail, nodes-fail, chart-fails, labels-fail, relation-fails}
 
 apart : {v t l : ℕ} {p : Place} → Refused p ≢ Accepted v t l
 apart e = let z : _≡_ {A = ℕ} 0 1 = cc in omega arith
@@ -26,12 +26,20 @@ apart e = let z : _≡_ {A = ℕ} 0 1 = cc in omega arith
 module _ (f : List ℕ) where
   -- ACCEPTED exactly where no check fails, with the counts
   pub accepted-iff : (v t l : ℕ) → (verdictOf f ≡ Accepted v t l)
-      ↔ ((recordsOf f ≡ stage.Passed) × (expression.checkOf (nodesIn f) ≡ stage.Passed) × (chart.checkOf (chartIn f) ≡ stage.Passed) × (labelledOf (chartIn f) (labelsIn f) ≡ labelled.Passed l) × (relationOf (bodyOf (nodesIn f)) (chartIn f) (relationIn f) ≡ stage.Passed) × (v ≡ verticesOf (chartIn f)) × (t ≡ countOf (chartIn f)))
-  unfolding verdictOf bodiesOf loopsOf labellingOf
-  accepted-iff v t l = (go (recordsOf f) (expression.checkOf (nodesIn f)) (chart.checkOf (chartIn f)) (labelledOf (chartIn f) (labelsIn f)) (relationOf (bodyOf (nodesIn f)) (chartIn f) (relationIn f)), λ (a, b, c, d, e, i, j). rw (a, b, c, d, e, i, j))
+      ↔ ((recordsOf f ≡ stage.Passed) × (expression.checkOf (nodesIn f) ≡ stage.Passed) × (chart.checkOf (chartIn f) ≡ stage.Passed)
+      × (labelledOf (chartIn f) (labelsIn f) ≡ labelled.Passed l) × (relationOf (bodyOf (nodesIn f)) (chartIn f) (relationIn f) ≡ stage.Passed)
+      × (v ≡ verticesOf (chartIn f)) × (t ≡ countOf (chartIn f)))
+  unfolding verdictOf
+  accepted-iff v t l = (
+    go (recordsOf f) (expression.checkOf (nodesIn f)) (chart.checkOf (chartIn f)) (labelledOf (chartIn f) (labelsIn f))
+        (relationOf (bodyOf (nodesIn f)) (chartIn f) (relationIn f)),
+    λ (a, b, c, d, e, i, j). rw (a, b, c, d, e, i, j),
+  )
     where
-      go : (a b c : Stage) (d : Labelled) (e : Stage) → after (andThen a (andThen b c)) (unless (counted (chartIn f) d) e) ≡ Accepted v t l
-          → (a ≡ stage.Passed) × (b ≡ stage.Passed) × (c ≡ stage.Passed) × (d ≡ labelled.Passed l) × (e ≡ stage.Passed) × (v ≡ verticesOf (chartIn f)) × (t ≡ countOf (chartIn f))
+      go : (a b c : Stage) (d : Labelled) (e : Stage)
+          → onPass a (onPass b (onPass c (onLoops d (λ x. onPass e (accepted (chartIn f) x))))) ≡ Accepted v t l
+          → (a ≡ stage.Passed) × (b ≡ stage.Passed) × (c ≡ stage.Passed) × (d ≡ labelled.Passed l) × (e ≡ stage.Passed)
+          × (v ≡ verticesOf (chartIn f)) × (t ≡ countOf (chartIn f))
       go (stage.Refused p) b c d e h = absurd (apart h)
       go stage.Passed (stage.Refused p) c d e h = absurd (apart h)
       go stage.Passed stage.Passed (stage.Refused p) d e h = absurd (apart h)
@@ -40,12 +48,15 @@ module _ (f : List ℕ) where
       go stage.Passed stage.Passed stage.Passed (labelled.Passed n) stage.Passed h = (refl, refl, refl, cc, refl, cc, cc)
 
   refused-fails : {p : Place} → verdictOf f ≡ Refused p → Fails f p
-  unfolding verdictOf bodiesOf loopsOf labellingOf
-  refused-fails {p} = go (recordsOf f) (expression.checkOf (nodesIn f)) (chart.checkOf (chartIn f)) (labelledOf (chartIn f) (labelsIn f)) (relationOf (bodyOf (nodesIn f)) (chartIn f) (relationIn f)) refl refl refl refl refl
+  unfolding verdictOf
+  refused-fails {p} =
+      go (recordsOf f) (expression.checkOf (nodesIn f)) (chart.checkOf (chartIn f)) (labelledOf (chartIn f) (labelsIn f))
+      (relationOf (bodyOf (nodesIn f)) (chartIn f) (relationIn f)) refl refl refl refl refl
     where
       go : (a b c : Stage) (d : Labelled) (e : Stage)
-          → recordsOf f ≡ a → expression.checkOf (nodesIn f) ≡ b → chart.checkOf (chartIn f) ≡ c → labelledOf (chartIn f) (labelsIn f) ≡ d → relationOf (bodyOf (nodesIn f)) (chartIn f) (relationIn f) ≡ e
-          → after (andThen a (andThen b c)) (unless (counted (chartIn f) d) e) ≡ Refused p → Fails f p
+          → recordsOf f ≡ a → expression.checkOf (nodesIn f) ≡ b → chart.checkOf (chartIn f) ≡ c
+          → labelledOf (chartIn f) (labelsIn f) ≡ d → relationOf (bodyOf (nodesIn f)) (chartIn f) (relationIn f) ≡ e
+          → onPass a (onPass b (onPass c (onLoops d (λ x. onPass e (accepted (chartIn f) x))))) ≡ Refused p → Fails f p
       go (stage.Refused q) b c d e i j k l m h = records-fail (cc)
       go stage.Passed (stage.Refused q) c d e i j k l m h = nodes-fail i (cc)
       go stage.Passed stage.Passed (stage.Refused q) d e i j k l m h = chart-fails i j (cc)
@@ -53,8 +64,8 @@ module _ (f : List ℕ) where
       go stage.Passed stage.Passed stage.Passed (labelled.Passed n) (stage.Refused q) i j k l m h = relation-fails i j k l (cc)
       go stage.Passed stage.Passed stage.Passed (labelled.Passed n) stage.Passed i j k l m h = absurd (apart (sym h))
 
-  fails-refused : {p : Place} → Fails f p → verdictOf f ≡ Refused p
-  unfolding verdictOf bodiesOf loopsOf labellingOf
+  pub fails-refused : {p : Place} → Fails f p → verdictOf f ≡ Refused p
+  unfolding verdictOf
   fails-refused (records-fail a) = rw a
   fails-refused (nodes-fail a b) = rw (a, b)
   fails-refused (chart-fails a b c) = rw (a, b, c)

@@ -1,4 +1,4 @@
--- The yard file (document 01): four records of kinds 1 to 4, nothing after; and the refusals 1 to 4, as a test that runs and by cases.
+-- The yard file: four records of kinds 1 to 4, nothing after; and the refusals 1 to 4, as a test and by cases.
 use mathlib.Core.Bool.{cond}
 use mathlib.Core.List.{List, [], _∷_, _++_}
 use mathlib.Core.Path.{_≡_}
@@ -6,6 +6,7 @@ use mathlib.Core.Logic.{_≢_}
 use Prim.Native.Nat.{ℕ, zero, suc, _+_, _*_, _/_, _%_, _<_, _≤_}
 use lib.Dec.{eqb, ltb}
 use lib.ListN.{length, getD, take, drop}
+use Rattle.bits.specs.Packed.{twoAt}
 use Rattle.report.specs.declared.Place.the-variants.{File, Record, RecordKind, FileOffset}
 use Rattle.report.specs.declared.Stage.{Stage}
 use Rattle.report.specs.declared.Stage.the-variants.{Passed, Refused}
@@ -26,20 +27,20 @@ recordOf kind body = twoBytes (length body) ++ (twoBytes kind ++ body)
 abbrev pub fileOf : List ℕ → List ℕ → List ℕ → List ℕ → List ℕ
 fileOf a b c d = recordOf 1 a ++ (recordOf 2 b ++ (recordOf 3 c ++ recordOf 4 d))
 
--- THE TESTS. The number at an offset; the offset after the record at an offset
-abbrev pub pairAt : List ℕ → ℕ → ℕ
-pairAt f at = getD f at 0 + 256 * getD f (at + 1) 0
-
+-- THE TESTS. The offset after the record at an offset, and its kind
 abbrev pub endAt : List ℕ → ℕ → ℕ
-endAt f at = at + 4 + pairAt f at
+endAt f at = at + 4 + twoAt f at
+
+abbrev pub kindAt : List ℕ → ℕ → ℕ
+kindAt f at = twoAt f (at + 2)
 
 -- 2 and 3 of the record of this kind at an offset: header, kind, body
 unfoldable pub recordStage : List ℕ → ℕ → ℕ → Stage
 recordStage f kind at =
     cond (ltb (length f) (at + 4)) (Refused (Record kind))
-    (cond (eqb (pairAt f (at + 2)) kind)
+    (cond (eqb (kindAt f at) kind)
     (cond (ltb (length f) (endAt f at)) (Refused (Record kind)) Passed)
-    (Refused (RecordKind kind (pairAt f (at + 2)))))
+    (Refused (RecordKind kind (kindAt f at))))
 
 -- the n records from an offset on, then 4
 unfoldable pub recordsFrom : List ℕ → ℕ → ℕ → ℕ → Stage
@@ -55,29 +56,36 @@ offsetOf f zero = 0
 offsetOf f (suc k) = endAt f (offsetOf f k)
 
 unfoldable pub bodyAt : List ℕ → ℕ → List ℕ
-bodyAt f k = take (pairAt f (offsetOf f k)) (drop (offsetOf f k + 4) f)
+bodyAt f k = take (twoAt f (offsetOf f k)) (drop (offsetOf f k + 4) f)
+
+-- the header at an offset is there
+abbrev pub HasHeader : List ℕ → ℕ → Type 0
+HasHeader f at = at + 4 ≤ length f
 
 -- what the refusals 2 and 3 ask of a record at an offset
-pub record Fits (f : List ℕ) (kind at : ℕ) : Type 0 where
-  pub header : at + 4 ≤ length f
-  pub is-kind : pairAt f (at + 2) ≡ kind
+pub record RecordFits (f : List ℕ) (kind at : ℕ) : Type 0 where
+  pub header : HasHeader f at
+  pub is-kind : kindAt f at ≡ kind
   pub body : endAt f at ≤ length f
 
 -- a file of four records of kinds 1 to 4, nothing after
 pub record Whole (f : List ℕ) : Type 0 where
   pub short : length f ≤ 43536
-  pub each : (k : ℕ) → k < 4 → Fits f (suc k) (offsetOf f k)
+  pub each : (k : ℕ) → k < 4 → RecordFits f (suc k) (offsetOf f k)
   pub nothing-after : offsetOf f 4 ≡ length f
 
 -- 1 does not refuse, and every record before record k, from 0, fits
-abbrev pub Before : List ℕ → ℕ → Type 0
-Before f k = (length f ≤ 43536) × ((j : ℕ) → j < k → Fits f (suc j) (offsetOf f j))
+abbrev pub RecordsBefore : List ℕ → ℕ → Type 0
+RecordsBefore f k = (length f ≤ 43536) × ((j : ℕ) → j < k → RecordFits f (suc j) (offsetOf f j))
 
 -- THE REFUSALS 1 TO 4, by cases: where a record is refused, those before it fit
 pub data RecordsChecked (f : List ℕ) : Stage → Type 0 where
   too-long : 43536 < length f → RecordsChecked f (Refused File)
-  cut-header : (k : ℕ) → k < 4 → Before f k → length f < offsetOf f k + 4 → RecordsChecked f (Refused (Record (suc k)))
-  other-kind : (k : ℕ) → k < 4 → Before f k → offsetOf f k + 4 ≤ length f → pairAt f (offsetOf f k + 2) ≢ suc k → RecordsChecked f (Refused (RecordKind (suc k) (pairAt f (offsetOf f k + 2))))
-  cut-body : (k : ℕ) → k < 4 → Before f k → offsetOf f k + 4 ≤ length f → pairAt f (offsetOf f k + 2) ≡ suc k → length f < endAt f (offsetOf f k) → RecordsChecked f (Refused (Record (suc k)))
-  bytes-after : Before f 4 → offsetOf f 4 < length f → RecordsChecked f (Refused (FileOffset (offsetOf f 4)))
+  cut-header : (k : ℕ) → k < 4 → RecordsBefore f k → length f < offsetOf f k + 4
+      → RecordsChecked f (Refused (Record (suc k)))
+  other-kind : (k : ℕ) → k < 4 → RecordsBefore f k → HasHeader f (offsetOf f k) → kindAt f (offsetOf f k) ≢ suc k
+      → RecordsChecked f (Refused (RecordKind (suc k) (kindAt f (offsetOf f k))))
+  cut-body : (k : ℕ) → k < 4 → RecordsBefore f k → HasHeader f (offsetOf f k) → kindAt f (offsetOf f k) ≡ suc k
+      → length f < endAt f (offsetOf f k) → RecordsChecked f (Refused (Record (suc k)))
+  bytes-after : RecordsBefore f 4 → offsetOf f 4 < length f → RecordsChecked f (Refused (FileOffset (offsetOf f 4)))
   whole : Whole f → RecordsChecked f Passed

@@ -2,27 +2,16 @@
 ghost use mathlib.Core.Path.{_≡_};
 ghost use Prim.Native.Nat.{_+_, _*_, _≤_, _<_};
 ghost use lib.ListN.{length};
-ghost use Rattle.chart.specs.Bodies.{verticesOf, startOf};
-ghost use Rattle.chart.specs.Checks as chart·checks;
-ghost use Rattle.expression.specs.Table as expression·table;
 ghost use Rattle.expression.specs.Body.{bodyOf};
 ghost use Rattle.bisimulation.specs.Relations.{relationOf};
-ghost use Rattle.bisimulation.specs.Answers.{Related, Fits};
-ghost use Rattle.verdict.specs.Files.{pairAt, recordStage, recordsOf, offsetOf, bodyAt};
-ghost use Rattle.verdict.specs.Verdicts.{bodiesOf, labellingOf, loopsOf, verdictOf};
+ghost use Rattle.verdict.specs.Files.{recordStage, recordsOf, offsetOf, bodyAt};
+ghost use Rattle.verdict.specs.Verdicts.{verdictOf, BothPass, ComeToPairs};
 use bits::byte;
+use bits::read_u16;
+use report::Labelled;
 use report::Place;
 use report::Stage;
 use report::Verdict;
-use witness::Labelled;
-
-// A number of two bytes, the low one first.
-fn pair(file: &[u8], at: usize) -> usize
-    requires { ⌜ at + 2 ≤ length (now file) ⌝ }
-    ensures { λ r. ⌜ (r ≡ pairAt (now (file .entry)) at) × (r < 65536) ⌝ }
-{
-    byte(file, at) + 256 * byte(file, at + 1)
-}
 
 // 2 and 3 of the record of this kind at an offset.
 fn record(file: &[u8], kind: usize, at: usize) -> Stage
@@ -32,11 +21,11 @@ fn record(file: &[u8], kind: usize, at: usize) -> Stage
     if file.len() - at < 4 {
         return Stage::Refused(Place::Record(kind));
     }
-    let found = pair(file, at + 2);
+    let found = read_u16(file, at + 2);
     if found != kind {
         return Stage::Refused(Place::RecordKind(kind, found));
     }
-    if file.len() - at - 4 < pair(file, at) {
+    if file.len() - at - 4 < read_u16(file, at) {
         return Stage::Refused(Place::Record(kind));
     }
     Stage::Passed
@@ -56,7 +45,7 @@ fn records(file: &[u8]) -> Stage
         let Stage::Passed = stage else {
             return stage;
         };
-        at = at + 4 + pair(file, at);
+        at = at + 4 + read_u16(file, at);
         kind += 1;
     }
     if at < file.len() {
@@ -73,7 +62,7 @@ fn offset(file: &[u8], k: usize) -> usize
     let mut at: usize = 0;
     let mut i: usize = 0;
     while i < k {
-        at = at + 4 + pair(file, at);
+        at = at + 4 + read_u16(file, at);
         i += 1;
     }
     at
@@ -86,40 +75,13 @@ fn body(file: &[u8], k: usize) -> &[u8]
 {
     let at = offset(file, k);
     let start = at + 4;
-    let end = start + pair(file, at);
+    let end = start + read_u16(file, at);
     &file[start..end]
 }
 
-// The refusals 1 to 4, 10 to 12, 20 and 21: the records, the nodes, the chart.
-fn check_bodies(file: &[u8]) -> Stage
-    ensures { λ r. ⌜ r ≡ bodiesOf (now (file .entry)) ⌝ }
-{
-    let stage = records(file);
-    let Stage::Passed = stage else {
-        return stage;
-    };
-    let stage = expression::check(body(file, 0));
-    let Stage::Passed = stage else {
-        return stage;
-    };
-    chart::check(body(file, 1))
-}
-
-// The refusals 30 to 35, or V, T and the number of loops.
-fn check_labelling(file: &[u8]) -> Verdict
-    requires { ⌜ bodiesOf (now file) ≡ Stage.Passed ⌝ }
-    ensures { λ r. ⌜ r ≡ labellingOf (now (file .entry)) ⌝ }
-{
-    let chart = body(file, 1);
-    match witness::check(chart, body(file, 2)) {
-        Labelled::Passed(loops) => Verdict::Accepted(byte(chart, 0), chart::count(chart), loops),
-        Labelled::Refused(place) => Verdict::Refused(place),
-    }
-}
-
 // The refusals 43 to 45, against the expression's chart, where 40 to 42 pass.
-fn check_pairs(nodes: &[u8], vertices: usize, chart: &[u8], relation: &[u8]) -> Stage
-    requires { ⌜ (expression·table.checkOf (now nodes) ≡ Stage.Passed) × (chart·checks.checkOf (now chart) ≡ Stage.Passed) × (vertices ≡ verticesOf (bodyOf (now nodes))) × (vertices ≤ 128) × Fits (bodyOf (now nodes)) (now chart) (now relation) × Related (now relation) (startOf (bodyOf (now nodes))) (startOf (now chart)) ⌝ }
+fn check_numbered_pairs(nodes: &[u8], vertices: usize, chart: &[u8], relation: &[u8]) -> Stage
+    requires { ⌜ ComeToPairs (now nodes) vertices (now chart) (now relation) ⌝ }
     ensures { λ r. ⌜ r ≡ relationOf (bodyOf (now (nodes .entry))) (now (chart .entry)) (now (relation .entry)) ⌝ }
 {
     let mut keys = [0usize; 128];
@@ -130,7 +92,7 @@ fn check_pairs(nodes: &[u8], vertices: usize, chart: &[u8], relation: &[u8]) -> 
 
 // The refusals 40 to 45, against the expression's chart, which is not written.
 fn check_relation(nodes: &[u8], chart: &[u8], relation: &[u8]) -> Stage
-    requires { ⌜ (expression·table.checkOf (now nodes) ≡ Stage.Passed) × (chart·checks.checkOf (now chart) ≡ Stage.Passed) ⌝ }
+    requires { ⌜ BothPass (now nodes) (now chart) ⌝ }
     ensures { λ r. ⌜ r ≡ relationOf (bodyOf (now (nodes .entry))) (now (chart .entry)) (now (relation .entry)) ⌝ }
 {
     let n = nodes.len() / 4;
@@ -138,32 +100,58 @@ fn check_relation(nodes: &[u8], chart: &[u8], relation: &[u8]) -> Stage
     let Stage::Passed = stage else {
         return stage;
     };
-    check_pairs(nodes, n + 1, chart, relation)
+    check_numbered_pairs(nodes, n + 1, chart, relation)
 }
 
-// The refusals 30 to 45, or the counts.
-fn check_loops(file: &[u8]) -> Verdict
-    requires { ⌜ bodiesOf (now file) ≡ Stage.Passed ⌝ }
-    ensures { λ r. ⌜ r ≡ loopsOf (now (file .entry)) ⌝ }
+// A stage's refusal as the verdict's.
+fn refusal(stage: Stage) -> Verdict
+    requires { ⌜ ((p : Place) × (stage ≡ Stage.Refused p)) ⌝ }
+    ensures { λ r. ⌜ ((p : Place) → stage ≡ Stage.Refused p → r ≡ Verdict.Refused p) ⌝ }
 {
-    let verdict = check_labelling(file);
-    let Verdict::Accepted(_, _, _) = verdict else {
-        return verdict;
-    };
-    let stage = check_relation(body(file, 0), body(file, 1), body(file, 3));
-    let Stage::Refused(place) = stage else {
-        return verdict;
-    };
-    Verdict::Refused(place)
+    match stage {
+        Stage::Refused(place) => Verdict::Refused(place),
+        // `requires` rules it out
+        Stage::Passed => Verdict::Refused(Place::File),
+    }
+}
+
+// The labelling's refusal as the verdict's.
+fn unlabelled(labelled: Labelled) -> Verdict
+    requires { ⌜ ((p : Place) × (labelled ≡ Labelled.Refused p)) ⌝ }
+    ensures { λ r. ⌜ ((p : Place) → labelled ≡ Labelled.Refused p → r ≡ Verdict.Refused p) ⌝ }
+{
+    match labelled {
+        Labelled::Refused(place) => Verdict::Refused(place),
+        // `requires` rules it out
+        Labelled::Passed(_) => Verdict::Refused(Place::File),
+    }
 }
 
 // The verdict on a yard file: accepted with its vertices, transitions and loops, or the first check that fails.
 pub fn check(file: &[u8]) -> Verdict
     ensures { λ r. ⌜ r ≡ verdictOf (now (file .entry)) ⌝ }
 {
-    let stage = check_bodies(file);
-    let Stage::Refused(first) = stage else {
-        return check_loops(file);
+    let stage = records(file);
+    let Stage::Passed = stage else {
+        return refusal(stage);
     };
-    Verdict::Refused(first)
+    let nodes = body(file, 0);
+    let stage = expression::check(nodes);
+    let Stage::Passed = stage else {
+        return refusal(stage);
+    };
+    let chart = body(file, 1);
+    let stage = chart::check(chart);
+    let Stage::Passed = stage else {
+        return refusal(stage);
+    };
+    let labelled = witness::check(chart, body(file, 2));
+    let Labelled::Passed(loops) = labelled else {
+        return unlabelled(labelled);
+    };
+    let stage = check_relation(nodes, chart, body(file, 3));
+    let Stage::Passed = stage else {
+        return refusal(stage);
+    };
+    Verdict::Accepted(byte(chart, 0), chart::count(chart), loops)
 }

@@ -26,26 +26,26 @@ module _ (p : ℕ → ℕ → Bool) where
   remains n v h = omega arith
 
   -- the first m columns, and the n after them
-  pub row-split : (u v m n : ℕ) → length (rowPairs p u v (m + n)) ≡ length (rowPairs p u v m) + length (rowPairs p u (v + m) n)
+  pub pairs-split : (u v m n : ℕ) → length (rowPairs p u v (m + n)) ≡ length (rowPairs p u v m) + length (rowPairs p u (v + m) n)
   unfolding rowPairs
-  row-split u v zero n = let e : v + 0 ≡ v = omega arith in let f : 0 + n ≡ n = omega arith in rw (e, f) (omega arith)
-  row-split u v (suc m) n =
+  pairs-split u v zero n = let e : v + 0 ≡ v = omega arith in let f : 0 + n ≡ n = omega arith in rw (e, f) (omega arith)
+  pairs-split u v (suc m) n =
       let e : suc m + n ≡ suc (m + n) = omega arith in
       let f : v + suc m ≡ suc v + m = omega arith in
-      rw (e, f) (go (p u v) refl (row-split u (suc v) m n))
+      rw (e, f) (go (p u v) refl (pairs-split u (suc v) m n))
     where
       go : (c : Bool) → p u v ≡ c → length (rowPairs p u (suc v) (m + n)) ≡ length (rowPairs p u (suc v) m) + length (rowPairs p u (suc v + m) n) → length (rowPairs p u v (suc (m + n))) ≡ length (rowPairs p u v (suc m)) + length (rowPairs p u (suc v + m) n)
       go true e i = let a = one-more u v (m + n) e in let b = one-more u v m e in omega (arith, a, b, i)
       go false e i = let a = no-more u v (m + n) e in let b = no-more u v m e in omega (arith, a, b, i)
 
   -- columns that pass where a bit of x is set
-  pub row-bits : (u x n v : ℕ) → ((i : ℕ) → i < n → p u (v + i) ≡ eqb (x / 2 ^ i % 2) 1) → length (rowPairs p u v n) ≡ bitsBelow x n
+  pub pairs-bits : (u x n v : ℕ) → ((i : ℕ) → i < n → p u (v + i) ≡ eqb (x / 2 ^ i % 2) 1) → length (rowPairs p u v n) ≡ bitsBelow x n
   unfolding rowPairs bitsBelow
-  row-bits u x zero v f = refl
-  row-bits u x (suc n) v f =
+  pairs-bits u x zero v f = refl
+  pairs-bits u x (suc n) v f =
       let e : n + 1 ≡ suc n = omega arith in
-      let s = row-split u v n 1 in
-      let r = row-bits u x n v (λ i h. f i (omega arith)) in
+      let s = pairs-split u v n 1 in
+      let r = pairs-bits u x n v (λ i h. f i (omega arith)) in
       let l = last (v + n) (x / 2 ^ n % 2) (mod-lt (x / 2 ^ n) (omega arith)) (f n (omega arith)) in
       ap (λ (k : ℕ). length (rowPairs p u v k)) (sym e) ∙ s ∙ ap₂ (λ (a b : ℕ). a + b) r l
     where
@@ -55,30 +55,30 @@ module _ (p : ℕ → ℕ → Bool) where
       last w (suc (suc d)) h e = absurd (omega arith)
 
   -- of the rows below n, those from u on
-  abbrev pub rowsFrom : ℕ → ℕ → ℕ → ℕ
-  rowsFrom columns n u = length (pairsFrom p columns u (n - u))
+  abbrev pub pairsLeft : ℕ → ℕ → ℕ → ℕ
+  pairsLeft columns n u = length (pairsFrom p columns u (n - u))
 
-  pub rows-one : (columns n u : ℕ) → u < n → rowsFrom columns n u ≡ length (rowPairs p u 0 columns) + rowsFrom columns n (suc u)
+  pub pairs-one : (columns n u : ℕ) → u < n → pairsLeft columns n u ≡ length (rowPairs p u 0 columns) + pairsLeft columns n (suc u)
   unfolding pairsFrom
-  rows-one columns n u h = rw (remains n u h) (length-append (rowPairs p u 0 columns) (pairsFrom p columns (suc u) (n - suc u)))
+  pairs-one columns n u h = rw (remains n u h) (length-append (rowPairs p u 0 columns) (pairsFrom p columns (suc u) (n - suc u)))
 
   -- where no column passes, in one row and in all rows from u on
-  row-none : (u n v : ℕ) → ((c : ℕ) → v ≤ c → c < v + n → p u c ≡ false) → length (rowPairs p u v n) ≡ 0
+  pairs-none-in : (u n v : ℕ) → ((c : ℕ) → v ≤ c → c < v + n → p u c ≡ false) → length (rowPairs p u v n) ≡ 0
   unfolding rowPairs
-  row-none u zero v f = refl
-  row-none u (suc n) v f = no-more u v n (f v (omega arith) (omega arith)) ∙ row-none u n (suc v) (λ c a b. f c (omega arith) (omega arith))
+  pairs-none-in u zero v f = refl
+  pairs-none-in u (suc n) v f = no-more u v n (f v (omega arith) (omega arith)) ∙ pairs-none-in u n (suc v) (λ c a b. f c (omega arith) (omega arith))
 
   none-from : (columns k u : ℕ) → ((r c : ℕ) → u ≤ r → r < u + k → c < columns → p r c ≡ false) → length (pairsFrom p columns u k) ≡ 0
   unfolding pairsFrom
   none-from columns zero u f = refl
   none-from columns (suc k) u f =
       let a = length-append (rowPairs p u 0 columns) (pairsFrom p columns (suc u) k) in
-      let r = row-none u columns 0 (λ c g h. f u c (omega arith) (omega arith) (omega arith)) in
+      let r = pairs-none-in u columns 0 (λ c g h. f u c (omega arith) (omega arith) (omega arith)) in
       let s = none-from columns k (suc u) (λ r c g h i. f r c (omega arith) (omega arith) i) in
       omega (arith, a, r, s)
 
-  pub rows-none : (columns n u : ℕ) → ((r c : ℕ) → u ≤ r → r < n → c < columns → p r c ≡ false) → rowsFrom columns n u ≡ 0
-  rows-none columns n u f = none-from columns (n - u) u (λ r c g h i. f r c g (omega arith) i)
+  pub pairs-none : (columns n u : ℕ) → ((r c : ℕ) → u ≤ r → r < n → c < columns → p r c ≡ false) → pairsLeft columns n u ≡ 0
+  pairs-none columns n u f = none-from columns (n - u) u (λ r c g h i. f r c g (omega arith) i)
 
 -- A LIST WITH EVERY MEMBER ONCE has one length
 abbrev Pair : Type 0

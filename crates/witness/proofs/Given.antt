@@ -9,44 +9,61 @@ use native.Mathlib.Omega.{arith}
 use borrow.Author.Count.{below-more}
 use lib.ListN.{length, getD, List·getD-eq-default}
 use Rattle.bits.specs.Bits.{Bytes}
-use Rattle.bits.specs.Words.{Has, HasRow}
+use Rattle.bits.specs.First.{First}
+use Rattle.bits.specs.declared.sets.Set.{Set}
+use Rattle.bits.specs.Sets.{Members}
 use Rattle.theory.specs.Charts.{Loop}
 use Rattle.chart.specs.Bodies.{WellFormed}
 use Rattle.chart.specs.Steps.{StepsOf}
-use Rattle.witness.specs.Given.{Enters, EntersHigh, HighestLabel, NoneAbove}
-use Rattle.witness.specs.Lowest.{NextLevel}
-use Rattle.bits.specs.Tables.{Table, Gains}
+use Rattle.bits.specs.Tables.{rowOf, Table, Gains}
+use Rattle.witness.specs.Given.{Tables, Enters, EntersHigh, HighestLabel, NoneAbove, InLater, IsLevel, EntryLevels, EntryTargets}
+use Rattle.witness.specs.Loops.{HasBodies, LoopGiven}
 use Rattle.witness.proofs.Labellings.{loop-below}
-use Rattle.witness.proofs.Lowest.{IsLevel, level-as}
-use Rattle.witness.proofs.Seen.{Levels, Targets}
-use Rattle.bits.proofs.Tables.{table-as, table-gains}
+use Rattle.witness.proofs.Firsts.{first-as}
+use Rattle.bits.proofs.Gains.{table-as, table-gains}
 
 -- with what the later levels have, a level has the vertices with an entry of it or of a higher one
-pub levels-of : {b labels entered high : List ℕ} → WellFormed b → Bytes labels → Table 256 (Enters (StepsOf b labels)) entered → Gains (λ (x y : ℕ). (m : ℕ) × (x < m) × (m < 256) × HasRow entered m y) entered high → Table 256 (EntersHigh (StepsOf b labels)) high
+pub levels-of : {b labels entered high : List ℕ} → WellFormed b → Bytes labels → Table 256 (Enters (StepsOf b labels)) entered
+    → Gains (InLater entered) entered high → Table 256 (EntersHigh (StepsOf b labels)) high
 levels-of {b} {labels} {entered = entered} W B E I = table-as (λ l u h g. (to l u g, from l u g)) (table-gains E I)
   where
-    to : (l u : ℕ) → u < 128 → Enters (StepsOf b labels) l u ⊎ ((m : ℕ) × (l < m) × (m < 256) × HasRow entered m u) → EntersHigh (StepsOf b labels) l u
+    to : (l u : ℕ) → u < 128 → Enters (StepsOf b labels) l u ⊎ InLater entered l u → EntersHigh (StepsOf b labels) l u
     to l u g (inl o) = (l, o, le-refl l)
     to l u g (inr (m, h, i, k)) = (m, E .exactly m u i g .0 k, omega arith)
 
-    from : (l u : ℕ) → u < 128 → EntersHigh (StepsOf b labels) l u → Enters (StepsOf b labels) l u ⊎ ((m : ℕ) × (l < m) × (m < 256) × HasRow entered m u)
+    from : (l u : ℕ) → u < 128 → EntersHigh (StepsOf b labels) l u → Enters (StepsOf b labels) l u ⊎ InLater entered l u
     from l u g (m, o, h) =
         let i = loop-below b labels W B o .1 in
         by-cases (ℕ-discrete m l) (λ e. inl (subst (Loop (StepsOf b labels) u) e o)) (λ e. inr (m, omega arith, i, E .exactly m u i g .1 o))
 
 -- of the tables of a vertex: the next level is that of a loop, and its set is what the entries lead to
 module _ {b labels : List ℕ} {v : ℕ} where
-  pub loop-next : {levels : List ℕ} {level r : ℕ} → Table 2 (Levels (StepsOf b labels) v) levels → NextLevel (IsLevel levels) level r → NextLevel (Loop (StepsOf b labels) v) level r
-  loop-next {levels} T = level-as (λ l h.
+  pub loop-next : {levels : List ℕ} {from r : ℕ} → Table 2 (EntryLevels (StepsOf b labels) v) levels → First (IsLevel levels) from 256 r
+      → First (Loop (StepsOf b labels) v) from 256 r
+  loop-next {levels} T = first-as (λ l h.
       let e : 128 * (l / 128) + l % 128 ≡ l = omega arith in
       subst (λ (k : ℕ). IsLevel levels l ↔ Loop (StepsOf b labels) v k) e (T .exactly (l / 128) (l % 128) (omega arith) (omega arith)))
 
-  pub loop-targets : {targets : List ℕ} {level : ℕ} → Table 256 (Targets (StepsOf b labels) v) targets → 0 < level → level < 256 → (w : ℕ) → w < 128 → Has (getD targets (2 * level) 0) (getD targets (2 * level + 1) 0) w ↔ StepsOf b labels v level w
-  loop-targets T a h w l = (λ g. T .exactly _ w h l .0 g .1, λ s. T .exactly _ w h l .1 (a, s))
+  loop-targets : {targets : List ℕ} {level : ℕ} → Table 256 (EntryTargets (StepsOf b labels) v) targets → 0 < level → level < 256
+      → Members (StepsOf b labels v level) (rowOf targets level)
+  loop-targets T a h = record { exactly = λ w l. (λ g. T .exactly _ w h l .0 g .1, λ s. T .exactly _ w h l .1 (a, s)) }
+
+  pub loop-given : {branches after entries low high targets : List ℕ} {level : ℕ} {set all : Set} → WellFormed b
+      → Tables b labels branches after entries low high → HasBodies (StepsOf b labels) v all → Table 256 (EntryTargets (StepsOf b labels) v) targets
+      → 0 < level → level < 256 → set ≡ rowOf targets level → LoopGiven b labels branches after high v level set all
+  loop-given {entries = entries} {low} W T H R a h e = record {
+    formed = W;
+    entries = entries;
+    low = low;
+    tables = T;
+    above = a;
+    members = rw e (loop-targets R a h);
+    bodies = H;
+  }
 
 -- no vertex has an entry of a level above the highest label
-pub none-above : {b labels entered : List ℕ} {top : ℕ} → Table 256 (Enters (StepsOf b labels)) entered → HighestLabel labels top → NoneAbove entered top
-none-above T h x y a l m g = let (p, w, s) = T .exactly x y l m .0 g in omega (arith, a, h .above (s .at), s .label)
+pub none-higher : {b labels entered : List ℕ} {top : ℕ} → Table 256 (Enters (StepsOf b labels)) entered → HighestLabel labels top → NoneAbove entered top
+none-higher T h x y a l g = let (p, w, s) = T .exactly x y l (g .below) .0 g in omega (arith, a, h .above (s .at), s .holds .is)
 
 -- the highest of the first i labels, and of one more
 pub record HighestTo (labels : List ℕ) (i top : ℕ) : Type 0 where

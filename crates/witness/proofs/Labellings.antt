@@ -2,17 +2,14 @@
 -- says what document 01 says of it, and the number is that of the loops.
 use mathlib.Core.Path.{_≡_, refl, sym, _∙_, ap, subst}
 use mathlib.Core.Logic.{_≢_, by-cases, _↔_}
-use mathlib.Core.Bool.{cond}
 use mathlib.Core.List.{List}
 use Prim.Native.Nat.{ℕ, _<_}
 use native.Mathlib.Decide.{ℕ-discrete}
-use native.Mathlib.Omega.{arith}
-use lib.Dec.{eqb}
 use lib.ListN.{length, getD}
 use borrow.Author.Tests.{eq-eqb, ne-eqb}
 use Rattle.theory.specs.Charts.{Loop}
 use Rattle.theory.specs.Witnesses.{Witness, Connected}
-use Rattle.theory.specs.Checks.{Outcome, passes, unreached, branch-cycle, no-return, end-inside, not-lower, Unreached, fails-33, fails-34, fails-35, Checked, all-pass, fails-31, fails-32, fails-loop}
+use Rattle.theory.specs.Checks.{Outcome, Unreached, OnBranchCycle, EarlierPass, LoopFails, fails-33, fails-34, fails-35, Checked, all-pass, fails-31, fails-32, fails-loop}
 use Rattle.theory.specs.Orders.{AllLoops}
 use Rattle.theory.specs.Tests.{Decides}
 use Rattle.theory.specs.LabellingTests.{loopList}
@@ -20,7 +17,8 @@ use Rattle.theory.proofs.Tests.{decided, decides-same, decides-and, decides-eqb
 use Rattle.theory.proofs.Reachability.{decides-star}
 use Rattle.theory.proofs.LabellingTests.{decides-any, loops-listed, outcome-checked}
 use Rattle.theory.proofs.Outcomes.{one-outcome, passes-iff-witness}
-use Rattle.report.specs.Numbers.{placeNumbers}
+use Rattle.report.specs.declared.Labelled.{Labelled}
+use Rattle.report.specs.declared.Labelled.the-variants.{Passed, Refused}
 use Rattle.report.specs.declared.Place.the-variants as place
 use Rattle.report.specs.declared.Stage.the-variants as stage
 use Rattle.bits.specs.Bits.{Bytes}
@@ -29,62 +27,17 @@ use Rattle.chart.specs.Checks.{checkOf}
 use Rattle.chart.specs.Steps.{StepsOf}
 use Rattle.chart.proofs.Checks.{well-formed}
 use Rattle.chart.proofs.Relations.{steps-formed, steps-listed}
-use Rattle.witness.specs.declared.Labelled.{Labelled}
-use Rattle.witness.specs.declared.Labelled.the-variants.{Passed, Refused}
-use Rattle.witness.specs.Meanings.{Says}
+use Rattle.witness.specs.LabellingAnswers.{Long, Reaches, FirstLoop, LabellingAnswer, passed, other-length, unreached-at, cycle-at, no-way-back, end-in-body, not-lower-at}
 use Rattle.witness.proofs.Counting.{loops-length}
-use Rattle.witness.specs.Labellings.{stepTest, loopsOf, outcomeOf, answered, labelledOf}
+use Rattle.witness.specs.Labellings.{stepTest, loopsOf, labellingOutcome, labelledAs, labelledOf}
 
 -- the test of a transition decides which there are
 pub tests-step : (b labels : List ℕ) (u l w : ℕ) → Decides (stepTest b labels u l w) (StepsOf b labels u l w)
 unfolding stepTest
 tests-step b labels u l w =
     decides-same
-    ((λ (i, h, (p, (q, r))). record { at = i; within = h; leaves = p; label = q; enters = r }), (λ s. (s .at, s .within, (s .leaves, (s .label, s .enters)))))
+    ((λ (i, h, (p, (q, r))). record { at = i; within = h; leaves = p; enters = r; holds = record { is = q } }), (λ s. (s .at, s .within, (s .leaves, (s .holds .is, s .enters)))))
     (decides-below (λ i. decides-and (decides-eqb (fromOf b i) u) (decides-and (decides-eqb (getD labels i 0) l) (decides-eqb (toOf b i) w))) (countOf b))
-
--- the answer tells the outcome
-outcomeAt : Labelled → Outcome
-outcomeAt (Passed n) = passes
-outcomeAt (Refused x) =
-    let k = placeNumbers x in
-    cond (eqb (k .n) 31) (unreached (k .p))
-    (cond (eqb (k .n) 32) (branch-cycle (k .p))
-    (cond (eqb (k .n) 33) (no-return (k .p) (k .q))
-    (cond (eqb (k .n) 34) (end-inside (k .p) (k .q)) (not-lower (k .p) (k .q) (k .r)))))
-
-outcome-at : (n : ℕ) (o : Outcome) → outcomeAt (answered n o) ≡ o
-unfolding outcomeAt
-outcome-at n passes = refl
-outcome-at n (unreached p) = refl
-outcome-at n (branch-cycle p) = refl
-outcome-at n (no-return v l) = refl
-outcome-at n (end-inside v l) = refl
-outcome-at n (not-lower v l r) = refl
-
-answered-one : (n : ℕ) (o o′ : Outcome) → answered n o ≡ answered n o′ → o ≡ o′
-answered-one n o o′ e = sym (outcome-at n o) ∙ ap outcomeAt e ∙ outcome-at n o′
-
-module _ {b labels : List ℕ} (W : WellFormed b) where
-  -- the checks answer as document 01 says
-  pub checked-says : (o : Outcome) → Checked (verticesOf b) (StepsOf b labels) (startOf b) o ↔ Says b labels o
-  checked-says o = (to, from o)
-    where
-      to : {x : Outcome} → Checked (verticesOf b) (StepsOf b labels) (startOf b) x → Says b labels x
-      to (all-pass c p) = (passes-iff-witness (steps-formed b labels W) (startOf b)) .0 (all-pass c p)
-      to (fails-31 h) = h
-      to (fails-32 c h) = (c, h)
-      to (fails-loop c n l e (fails-33 h)) = (record { reaches = c; acyclic = n; is-loop = l; earlier = e }, h)
-      to (fails-loop c n l e (fails-34 h g)) = (record { reaches = c; acyclic = n; is-loop = l; earlier = e }, h, g)
-      to (fails-loop c n l e (fails-35 h g r)) = (record { reaches = c; acyclic = n; is-loop = l; earlier = e }, h, g, r)
-
-      from : (x : Outcome) → Says b labels x → Checked (verticesOf b) (StepsOf b labels) (startOf b) x
-      from passes s = (passes-iff-witness (steps-formed b labels W) (startOf b)) .1 s
-      from (unreached p) s = fails-31 s
-      from (branch-cycle p) (c, h) = fails-32 c h
-      from (no-return v l) (f, h) = fails-loop (f .reaches) (f .acyclic) (f .is-loop) (f .earlier) (fails-33 h)
-      from (end-inside v l) (f, h, g) = fails-loop (f .reaches) (f .acyclic) (f .is-loop) (f .earlier) (fails-34 h g)
-      from (not-lower v l r) (f, h, g, s) = fails-loop (f .reaches) (f .acyclic) (f .is-loop) (f .earlier) (fails-35 h g s)
 
 module _ (b labels : List ℕ) (W : WellFormed b) (B : Bytes labels) where
   labels-below : (u l w : ℕ) → StepsOf b labels u l w → l < 256
@@ -101,16 +54,16 @@ module _ (b labels : List ℕ) (W : WellFormed b) (B : Bytes labels) where
       (λ p. p)
       (λ p. absurd (none w g (h, g, p)))
 
-  pub outcome-of : Checked (verticesOf b) (StepsOf b labels) (startOf b) (outcomeOf b labels)
-  unfolding outcomeOf
+  pub outcome-of : Checked (verticesOf b) (StepsOf b labels) (startOf b) (labellingOutcome b labels)
+  unfolding labellingOutcome
   outcome-of = outcome-checked (tests-step b labels) (steps-formed b labels W) labels-below (startOf b) (W .header .start-high)
 
   -- where 30 passes, the answer is that of the checks 31 to 35
-  pub labelled-checked : length labels ≡ countOf b → {o : Outcome} → Checked (verticesOf b) (StepsOf b labels) (startOf b) o → labelledOf b labels ≡ answered (loopsOf b labels) o
+  pub labelled-checked : length labels ≡ countOf b → {o : Outcome} → Checked (verticesOf b) (StepsOf b labels) (startOf b) o → labelledOf b labels ≡ labelledAs (loopsOf b labels) o
   unfolding labelledOf
-  labelled-checked e c = rw (eq-eqb (length labels) (countOf b) e) (ap (answered (loopsOf b labels)) (one-outcome outcome-of c))
+  labelled-checked e c = rw (eq-eqb (length labels) (countOf b) e) (ap (labelledAs (loopsOf b labels)) (one-outcome outcome-of c))
 
-  pub labelled-outcome : length labels ≡ countOf b → labelledOf b labels ≡ answered (loopsOf b labels) (outcomeOf b labels)
+  pub labelled-outcome : length labels ≡ countOf b → labelledOf b labels ≡ labelledAs (loopsOf b labels) (labellingOutcome b labels)
   labelled-outcome e = labelled-checked e outcome-of
 
 -- 30: the labelling has another length
@@ -118,57 +71,10 @@ pub labelled-long : (b labels : List ℕ) → length labels ≢ countOf b → la
 unfolding labelledOf
 labelled-long b labels h = rw (ne-eqb (length labels) (countOf b) h)
 
--- no outcome of 31 to 35 answers 30
-not-30 : (n p : ℕ) (o : Outcome) → answered n o ≢ Refused (place.LabelsLength p)
-not-30 n p passes e = let z : _≡_ {A = ℕ} 0 1 = cc in omega arith
-not-30 n p (unreached q) e = let z : _≡_ {A = ℕ} 0 1 = cc in omega arith
-not-30 n p (branch-cycle q) e = let z : _≡_ {A = ℕ} 0 1 = cc in omega arith
-not-30 n p (no-return v l) e = let z : _≡_ {A = ℕ} 0 1 = cc in omega arith
-not-30 n p (end-inside v l) e = let z : _≡_ {A = ℕ} 0 1 = cc in omega arith
-not-30 n p (not-lower v l r) e = let z : _≡_ {A = ℕ} 0 1 = cc in omega arith
-
 -- THE THEOREMS, for a chart body that 20 and 21 let pass
-module _ (b labels : List ℕ) (passed : checkOf b ≡ stage.Passed) (B : Bytes labels) where
+module _ (b labels : List ℕ) (checked : checkOf b ≡ stage.Passed) (B : Bytes labels) where
   well : WellFormed b
-  well = well-formed b passed
-
-  -- 30: the length is not T; the place is the length
-  pub labelled-30 : (p : ℕ) → (labelledOf b labels ≡ Refused (place.LabelsLength p)) ↔ ((length labels ≢ countOf b) × (length labels ≡ p))
-  labelled-30 p = (to, λ (h, e). rw e at (labelled-long b labels h))
-    where
-      to : labelledOf b labels ≡ Refused (place.LabelsLength p) → (length labels ≢ countOf b) × (length labels ≡ p)
-      to e = by-cases (ℕ-discrete (length labels) (countOf b))
-          (λ h. absurd (not-30 (loopsOf b labels) p (outcomeOf b labels) (sym (labelled-outcome b labels well B h) ∙ e)))
-          (λ h. (h, let f = labelled-long b labels h in let g : length labels ≡ p = cc in g))
-
-  -- 31 to 35 and nothing refused: the answer is an outcome's exactly where what it says holds
-  pub labelled-says : (o : Outcome) → (labelledOf b labels ≡ answered (loopsOf b labels) o) ↔ ((length labels ≡ countOf b) × Says b labels o)
-  labelled-says o = (λ e. by-cases (ℕ-discrete (length labels) (countOf b)) (same e) (λ h. absurd (not-30 _ _ o (sym e ∙ labelled-long b labels h))), λ (h, s). labelled-checked b labels well B h (checked-says well o .1 s))
-    where
-      same : labelledOf b labels ≡ answered (loopsOf b labels) o → length labels ≡ countOf b → (length labels ≡ countOf b) × Says b labels o
-      same e h =
-          let i : outcomeOf b labels ≡ o = answered-one _ _ _ (sym (labelled-outcome b labels well B h) ∙ e) in
-          (h, checked-says well o .0 (subst (Checked (verticesOf b) (StepsOf b labels) (startOf b)) i (outcome-of b labels well B)))
-
-  -- 31: the place is the lowest vertex, the end aside, that the start does not reach
-  pub labelled-31 : (p : ℕ) → (labelledOf b labels ≡ Refused (place.Unreached p)) ↔ ((length labels ≡ countOf b) × Says b labels (unreached p))
-  labelled-31 p = labelled-says (unreached p)
-
-  -- 32: the place is the lowest vertex on a branch cycle
-  pub labelled-32 : (p : ℕ) → (labelledOf b labels ≡ Refused (place.BranchCycle p)) ↔ ((length labels ≡ countOf b) × Says b labels (branch-cycle p))
-  labelled-32 p = labelled-says (branch-cycle p)
-
-  -- 33: the place is the first loop that fails, and it has no way back
-  pub labelled-33 : (v l : ℕ) → (labelledOf b labels ≡ Refused (place.LoopNoReturn v l)) ↔ ((length labels ≡ countOf b) × Says b labels (no-return v l))
-  labelled-33 v l = labelled-says (no-return v l)
-
-  -- 34: it has one, and the end is in its body
-  pub labelled-34 : (v l : ℕ) → (labelledOf b labels ≡ Refused (place.LoopEndInside v l)) ↔ ((length labels ≡ countOf b) × Says b labels (end-inside v l))
-  labelled-34 v l = labelled-says (end-inside v l)
-
-  -- 35: neither, and r is the lowest body vertex other than v with an entry of equal or higher level
-  pub labelled-35 : (v l r : ℕ) → (labelledOf b labels ≡ Refused (place.LoopNotLower v l r)) ↔ ((length labels ≡ countOf b) × Says b labels (not-lower v l r))
-  labelled-35 v l r = labelled-says (not-lower v l r)
+  well = well-formed b checked
 
   -- the number of loops is the length of each list with every loop once, and there is one
   pub loops-all : AllLoops (StepsOf b labels) (loopList (stepTest b labels) (verticesOf b) 256)
@@ -178,26 +84,68 @@ module _ (b labels : List ℕ) (passed : checkOf b ≡ stage.Passed) (B : Bytes 
   unfolding loopsOf
   loops-number xs a = loops-length a loops-all
 
+  first-loop : {v l : ℕ} → Long b labels → Reaches b labels → ((w : ℕ) → ¬ OnBranchCycle (StepsOf b labels) w)
+      → Loop (StepsOf b labels) v l → EarlierPass (StepsOf b labels) v l → FirstLoop b labels v l
+  first-loop h c n i e = record { long = h; reaches = c; acyclic = n; is-loop = i; earlier = e }
+
+  -- the outcome of 31 to 35, as an answer
+  outcome-answer : length labels ≡ countOf b → {o : Outcome} → Checked (verticesOf b) (StepsOf b labels) (startOf b) o
+      → LabellingAnswer b labels (labelledAs (loopsOf b labels) o)
+  unfolding loopsOf
+  outcome-answer h (all-pass c p) =
+      let (k, w) = passes-iff-witness (steps-formed b labels well) (startOf b) .0 (all-pass c p) in
+      passed (loopList (stepTest b labels) (verticesOf b) 256) h k w loops-all
+  outcome-answer h (fails-31 p) = unreached-at h p
+  outcome-answer h (fails-32 c p) = cycle-at h c p
+  outcome-answer h (fails-loop c n i e (fails-33 x)) = no-way-back (first-loop h c n i e) x
+  outcome-answer h (fails-loop c n i e (fails-34 x y)) = end-in-body (first-loop h c n i e) x y
+  outcome-answer h (fails-loop c n i e (fails-35 x y r)) = not-lower-at (first-loop h c n i e) x y r
+
+  labelled-answer : LabellingAnswer b labels (labelledOf b labels)
+  labelled-answer = by-cases (ℕ-discrete (length labels) (countOf b))
+      (λ h. rw (labelled-outcome b labels well B h) (outcome-answer h (outcome-of b labels well B)))
+      (λ h. rw (labelled-long b labels h) (other-length h))
+
+  loop-answer : {v l : ℕ} {o : Outcome} → FirstLoop b labels v l → LoopFails (StepsOf b labels) v l o
+      → labelledOf b labels ≡ labelledAs (loopsOf b labels) o
+  loop-answer f x =
+      labelled-checked b labels well B (f .long) (fails-loop (f .reaches) (f .acyclic) (f .is-loop) (f .earlier) x)
+
+  answer-labelled : {a : Labelled} → LabellingAnswer b labels a → labelledOf b labels ≡ a
+  answer-labelled (passed xs h c w all) =
+      labelled-checked b labels well B h (passes-iff-witness (steps-formed b labels well) (startOf b) .1 (c, w))
+      ∙ ap Passed (sym (loops-number xs all))
+  answer-labelled (other-length h) = labelled-long b labels h
+  answer-labelled (unreached-at h p) = labelled-checked b labels well B h (fails-31 p)
+  answer-labelled (cycle-at h c p) = labelled-checked b labels well B h (fails-32 c p)
+  answer-labelled (no-way-back f x) = loop-answer f (fails-33 x)
+  answer-labelled (end-in-body f x y) = loop-answer f (fails-34 x y)
+  answer-labelled (not-lower-at f x y r) = loop-answer f (fails-35 x y r)
+
+  -- EACH ANSWER, with its place, stands exactly where what it says holds
+  pub labelled-says : (a : Labelled) → (labelledOf b labels ≡ a) ↔ LabellingAnswer b labels a
+  labelled-says a = ((λ e. subst (LabellingAnswer b labels) e labelled-answer), answer-labelled)
+
+  pub labelled-loops : (n : ℕ) → labelledOf b labels ≡ Passed n
+      → (xs : List (ℕ × ℕ)) × AllLoops (StepsOf b labels) xs × (length xs ≡ n)
+  labelled-loops n e = loops (labelled-says (Passed n) .0 e)
+    where
+      loops : {m : ℕ} → LabellingAnswer b labels (Passed m)
+          → (xs : List (ℕ × ℕ)) × AllLoops (StepsOf b labels) xs × (length xs ≡ m)
+      loops (passed xs h c w all) = (xs, all, refl)
+
   -- a labelling that passes answers that number
   pub labelled-number : (n : ℕ) → labelledOf b labels ≡ Passed n → n ≡ loopsOf b labels
-  labelled-number n e = by-cases (ℕ-discrete (length labels) (countOf b))
-      (λ h. number (outcomeOf b labels) (sym (labelled-outcome b labels well B h) ∙ e))
-      (λ h. let f = labelled-long b labels h in let z : _≡_ {A = ℕ} 0 1 = cc in absurd (omega arith))
-    where
-      number : (o : Outcome) → answered (loopsOf b labels) o ≡ Passed n → n ≡ loopsOf b labels
-      number passes f = cc
-      number (unreached q) f = let z : _≡_ {A = ℕ} 0 1 = cc in absurd (omega arith)
-      number (branch-cycle q) f = let z : _≡_ {A = ℕ} 0 1 = cc in absurd (omega arith)
-      number (no-return v l) f = let z : _≡_ {A = ℕ} 0 1 = cc in absurd (omega arith)
-      number (end-inside v l) f = let z : _≡_ {A = ℕ} 0 1 = cc in absurd (omega arith)
-      number (not-lower v l r) f = let z : _≡_ {A = ℕ} 0 1 = cc in absurd (omega arith)
-
-  pub labelled-loops : (n : ℕ) → labelledOf b labels ≡ Passed n → (xs : List (ℕ × ℕ)) × AllLoops (StepsOf b labels) xs × (length xs ≡ n)
-  labelled-loops n e = (loopList (stepTest b labels) (verticesOf b) 256, loops-all, loops-number _ loops-all ∙ sym (labelled-number n e))
+  labelled-number n e = let (xs, all, h) = labelled-loops n e in sym h ∙ loops-number xs all
 
   -- A LABELLING PASSES EXACTLY WHEN it has a byte a transition, the chart is connected and it is a layered loop witness
-  pub labelled-iff-witness : ((n : ℕ) × (labelledOf b labels ≡ Passed n)) ↔ ((length labels ≡ countOf b) × Connected (verticesOf b) (StepsOf b labels) (startOf b) × Witness (StepsOf b labels) (startOf b))
+  pub labelled-iff-witness : ((n : ℕ) × (labelledOf b labels ≡ Passed n))
+      ↔ ((length labels ≡ countOf b) × Connected (verticesOf b) (StepsOf b labels) (startOf b) × Witness (StepsOf b labels) (startOf b))
   labelled-iff-witness = (
-    λ (n, e). let (h, s) = labelled-says passes .0 (e ∙ ap Passed (labelled-number n e)) in (h, s .0, s .1),
-    λ (h, c, w). (loopsOf b labels, labelled-says passes .1 (h, (c, w))),
+    (λ (n, e). witness (labelled-says (Passed n) .0 e)),
+    (λ (h, c, w). (_, answer-labelled (passed _ h c w loops-all))),
   )
+    where
+      witness : {m : ℕ} → LabellingAnswer b labels (Passed m)
+          → (length labels ≡ countOf b) × Connected (verticesOf b) (StepsOf b labels) (startOf b) × Witness (StepsOf b labels) (startOf b)
+      witness (passed xs h c w all) = (h, c, w)

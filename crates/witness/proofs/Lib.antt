@@ -1,10 +1,10 @@
 -- The laws: the theorems over bytes, then what the code's parts do.
 pub mod Counting
 pub mod Labellings
-pub mod Sets
+pub mod Later
 pub mod Seen
 pub mod Sifting
-pub mod Lowest
+pub mod Firsts
 pub mod Given
 pub mod Collecting
 pub mod Sizes

@@ -1,6 +1,6 @@
 -- The checks 33 to 35: of one loop, of the loops of a vertex, of all loops.
 use mathlib.Core.Path.{_≡_, refl, sym, subst}
-use mathlib.Core.Logic.{_≢_, inl, inr, ⊎-elim, by-cases, _↔_}
+use mathlib.Core.Logic.{inl, inr, ⊎-elim, by-cases, _↔_}
 use mathlib.Core.List.{List}
 use Prim.Native.Nat.{ℕ, _+_, _≤_, _<_}
 use native.Mathlib.Decide.{ℕ-discrete, decLt}
@@ -10,7 +10,7 @@ use Rattle.theory.specs.Paths.{Edges, Star, here, step, Plus, Avoid}
 use Rattle.theory.specs.Charts.{Steps, Branch, Loop}
 use Rattle.theory.specs.LoopCharts.{InLoop}
 use Rattle.theory.specs.Checks.{LoopPasses, no-return, end-inside, not-lower, NotLower, fails-33, fails-34, fails-35}
-use Rattle.theory.proofs.Paths.{star-apart, star-cases, star-map, plus-star, plus-below}
+use Rattle.theory.proofs.Paths.{star-apart, star-cases, star-map, plus-map, plus-star, plus-below}
 use Rattle.theory.proofs.Checks.{loop-to}
 use Rattle.theory.proofs.Rounds.{body-iff}
 use Rattle.report.specs.declared.Place.{Place}
@@ -18,31 +18,36 @@ use Rattle.report.specs.declared.Place.the-variants.{LoopNoReturn, LoopEndInsid
 use Rattle.report.specs.declared.Stage.{Stage}
 use Rattle.report.specs.declared.Stage.the-variants.{Passed, Refused}
 use Rattle.bits.specs.Bits.{Bytes}
-use Rattle.bits.specs.Words.{Has, HasRow}
-use Rattle.bits.specs.Tables.{Members}
+use Rattle.bits.specs.First.{First}
+use Rattle.bits.specs.declared.sets.Set.{Set}
+use Rattle.bits.specs.Sets.{Has, Empty, Members}
+use Rattle.bits.specs.Tables.{rowOf}
 use Rattle.chart.specs.Bodies.{verticesOf, WellFormed}
 use Rattle.chart.specs.Steps.{StepsOf}
 use Rattle.chart.proofs.Relations.{steps-formed}
 use Rattle.witness.specs.Given.{Tables}
-use Rattle.witness.specs.Loops.{LoopSaid, Back, AllBack, Below, Whole}
-use Rattle.witness.specs.Lowest.{Lowest, NextLevel}
+use Rattle.witness.specs.Loops.{LoopSaid, Back, Returning, AllBack, InBoth, BelowLevel, HasBodies}
 use Rattle.witness.specs.Answers.{FailsAt, VertexSaid, LoopsSaid}
 use Rattle.witness.proofs.Labellings.{loop-below}
-use Rattle.witness.proofs.Lowest.{lowest-as}
-use Rattle.witness.proofs.Reaching.{step-low}
+use Rattle.witness.proofs.Firsts.{first-as}
+use Rattle.witness.proofs.Reaching.{step-low, leads-branch, branch-leads}
+use Rattle.witness.proofs.Sifting.{some-member}
 
 -- the way to v, up to the first time that it is there
 to-first : {E : Edges} {u v : ℕ} → Star E u v → Star (Avoid v E) u v
 to-first here = here
 to-first {E} {v = v} (step {u = u} e p) = elim (ℕ-discrete u v) [ yes z ↦ subst (λ (x : ℕ). Star (Avoid v E) x v) (sym z) here | no z ↦ step (z, e) (to-first p) ]
 
-module _ {b labels branches after entries low high : List ℕ} (W : WellFormed b) (T : Tables b labels branches after entries low high) {v : ℕ} (at : v < 128) where
+module _ {b labels branches after entries low high : List ℕ} (W : WellFormed b)
+    (T : Tables b labels branches after entries low high) {v : ℕ} (at : v < 128) where
   -- 33: BY THE TARGETS OF A LOOP'S ENTRIES
   -- w leads to v, or is it
   back-iff : (w : ℕ) → w < verticesOf b → Back after v w ↔ Star (Branch (StepsOf b labels)) w v
-  back-iff w h = (
-    ⊎-elim (λ e. subst (λ (x : ℕ). Star (Branch (StepsOf b labels)) x v) (sym e) here) (λ g. plus-star (T .of-after .exactly w v h at .0 g)),
-    λ p. ⊎-elim inl (λ q. inr (T .of-after .exactly w v h at .1 q)) (star-cases p),
+  back-iff w h = let k = T .of-after .exactly w v (omega arith) h (omega (arith, W .header .vertices-high)) in (
+    ⊎-elim
+        (λ e. subst (λ (x : ℕ). Star (Branch (StepsOf b labels)) x v) (sym e) here)
+        (λ g. plus-star (plus-map (leads-branch W (T .of-branches)) (k .0 g))),
+    λ p. ⊎-elim inl (λ q. inr (k .1 (plus-map (branch-leads W (T .of-branches)) q))) (star-cases p),
   )
 
   target-low : {l w : ℕ} → StepsOf b labels v l w → w < verticesOf b
@@ -54,29 +59,37 @@ module _ {b labels branches after entries low high : List ℕ} (W : WellFormed b
   comes-by : {l : ℕ} → Plus (InLoop (StepsOf b labels) v l) v v → (w : ℕ) × StepsOf b labels v l w × Back after v w
   comes-by p = let (w, s, q) = body-iff v .0 p in (w, s, back-iff w (target-low s) .1 (star-map (λ x y e. e .1) q))
 
-  module _ {l : ℕ} (lo hi : ℕ) {r : ℕ} (S : (w : ℕ) → w < 128 → Has lo hi w ↔ StepsOf b labels v l w) (L : Lowest (λ (w : ℕ). Has lo hi w × Back after v w) 128 r) where
-    pub loop-33 : r ≡ 128 → FailsAt (StepsOf b labels) v l (LoopNoReturn v l)
-    loop-33 e = (no-return v l, fails-33 (λ p. let (w, s, k) = comes-by p in let h = step-low W s .1 in L .below w (omega arith) (S w h .1 s, k)), λ n. refl)
+  module _ {l : ℕ} {targets r : Set} (S : Members (StepsOf b labels v l) targets) (R : Members (Returning after v targets) r) where
+    pub loop-33 : Empty r → FailsAt (StepsOf b labels) v l (LoopNoReturn v l)
+    loop-33 e = (
+      no-return v l,
+      fails-33 (λ p. let (w, s, k) = comes-by p in let h = step-low W s .1 in e w (R .exactly w h .1 (S .exactly w h .1 s, k))),
+      λ n. refl,
+    )
 
-    pub loop-back : r ≢ 128 → Plus (InLoop (StepsOf b labels) v l) v v
-    loop-back e = let h : r < 128 = omega (arith, L .within) in let (g, k) = L .holds h in comes (S r h .0 g) k
+    pub loop-back : ¬ Empty r → Plus (InLoop (StepsOf b labels) v l) v v
+    loop-back e =
+        let (w, h) = some-member r e in
+        let (g, k) = R .exactly w (h .below) .0 h in
+        comes (S .exactly w (h .below) .0 g) k
 
   -- 34 AND 35: BY THE LOOP'S BODY
-  module _ {l : ℕ} (i : l < 256) {m : List ℕ} (M : Members (Plus (InLoop (StepsOf b labels) v l) v) m) (back : Plus (InLoop (StepsOf b labels) v l) v v) where
-    pub loop-34 : Has (getD m 0 0) (getD m 1 0) 0 → FailsAt (StepsOf b labels) v l (LoopEndInside v l)
+  module _ {l : ℕ} (i : l < 256) {m : Set} (M : Members (Plus (InLoop (StepsOf b labels) v l) v) m)
+      (back : Plus (InLoop (StepsOf b labels) v l) v v) where
+    pub loop-34 : Has m 0 → FailsAt (StepsOf b labels) v l (LoopEndInside v l)
     loop-34 g = (end-inside v l, fails-34 back (M .exactly 0 (omega arith) .0 g), λ n. refl)
 
-    module _ (no-end : ¬ Has (getD m 0 0) (getD m 1 0) 0) {r : ℕ} (L : Lowest (λ (w : ℕ). (Has (getD m 0 0) (getD m 1 0) w × HasRow high l w) × (w ≢ v)) 128 r) where
-      found : Lowest (NotLower (StepsOf b labels) v l) 128 r
-      found = lowest-as (λ w h. (
+    module _ (no-end : ¬ Has m 0) {r : ℕ} (F : First (InBoth m high v l) 0 128 r) where
+      found : First (NotLower (StepsOf b labels) v l) 0 128 r
+      found = first-as (λ w h. (
         λ ((c, d), a). (a, M .exactly w h .0 c, T .of-levels .exactly l w i h .0 d),
         λ (a, c, d). ((M .exactly w h .1 c, T .of-levels .exactly l w i h .1 d), a),
-      )) L
+      )) F
 
       pub loop-35 : r < 128 → FailsAt (StepsOf b labels) v l (LoopNotLower v l r)
       loop-35 k = (
         not-lower v l r,
-        fails-35 back (λ p. no-end (M .exactly 0 (omega arith) .1 p)) (record { holds = found .holds k; lowest = found .below }),
+        fails-35 back (λ p. no-end (M .exactly 0 (omega arith) .1 p)) (record { holds = found .holds k; lowest = λ w. found .before w (omega arith) }),
         λ n. refl,
       )
 
@@ -87,13 +100,14 @@ module _ {b labels branches after entries low high : List ℕ} (W : WellFormed b
         c35 = λ w a p x o. by-cases (decLt x l) (λ q. q) (λ q.
             let s = star-apart p a in
             let j : w < verticesOf b = plus-below (loop-to (steps-formed b labels W) v l) s in
-            absurd (found .below w (omega (arith, W .header .vertices-high)) (a, s, (x, o, omega arith))));
+            absurd (found .before w (omega arith) (omega (arith, W .header .vertices-high)) (a, s, (x, o, omega arith))));
       }
 
   -- BY WHAT ALL ENTRIES OF v REACH
-  module _ {all0 all1 : ℕ} (H : Whole (StepsOf b labels) v all0 all1) where
+  module _ {all : Set} (H : HasBodies (StepsOf b labels) v all) where
     -- below the level m, it shows 34 and 35 of each loop of m or higher
-    pub passes-below : {l m : ℕ} → m < 256 → m ≤ l → 0 < l → Below all0 all1 high v m → Plus (InLoop (StepsOf b labels) v l) v v → LoopPasses (StepsOf b labels) v l
+    pub passes-below : {l m : ℕ} → m < 256 → m ≤ l → 0 < l → BelowLevel all high v m → Plus (InLoop (StepsOf b labels) v l) v v
+        → LoopPasses (StepsOf b labels) v l
     passes-below {l} {m} i g some B back = record {
       c33 = back;
       c34 = λ p. B .endless (H l 0 some (omega arith) p);
@@ -101,20 +115,21 @@ module _ {b labels branches after entries low high : List ℕ} (W : WellFormed b
           let r = star-apart p a in
           let k : w < verticesOf b = plus-below (loop-to (steps-formed b labels W) v l) r in
           let j : w < 128 = omega (arith, W .header .vertices-high) in
-          absurd (B .lower w j (H l w some j r) (T .of-levels .exactly m w i j .1 (x, o, omega arith)) a));
+          absurd (B .lower w ((H l w some j r, T .of-levels .exactly m w i j .1 (x, o, omega arith)), a)));
     }
 
     -- below the lowest level of v, it shows them of all
-    pub vertex-passes : {m : ℕ} → m ≡ getD low v 0 → m < 256 → Below all0 all1 high v m → AllBack after entries v → VertexSaid (StepsOf b labels) v Passed
+    pub vertex-passes : {m : ℕ} → m ≡ getD low v 0 → m < 256 → BelowLevel all high v m → AllBack after v (rowOf entries v)
+        → VertexSaid (StepsOf b labels) v Passed
     vertex-passes {m} e i B R l (some, w, s) =
-        passes-below i lowest some B (comes s (R w (step-low W s .1) (T .of-entries .exactly v w at (step-low W s .1) .1 (l, some, s))))
+        passes-below i lowest some B (comes s (R w (T .of-entries .exactly v w at (step-low W s .1) .1 (l, some, s))))
       where
         lowest : m ≤ l
-        lowest = by-cases (decLt l m) (λ h. absurd (T .of-low .each v at .below l (omega arith) (some, w, s))) (λ h. omega arith)
+        lowest = by-cases (decLt l m) (λ h. absurd (T .of-low .each v at .before l (omega arith) (omega arith) (some, w, s))) (λ h. omega arith)
 
   -- a vertex with no entries
   pub vertex-none : Bytes labels → 256 ≤ getD low v 0 → VertexSaid (StepsOf b labels) v Passed
-  vertex-none B h l o = let g = loop-below b labels W B o .1 in absurd (T .of-low .each v at .below l (omega arith) o)
+  vertex-none B h l o = let g = loop-below b labels W B o .1 in absurd (T .of-low .each v at .before l (omega arith) (omega arith) o)
 
 -- THE LOOPS OF A VERTEX
 -- the loops of v below `level` pass, and level is the next, or 256
@@ -125,16 +140,16 @@ pub record VertexTo (S : Steps) (v level : ℕ) : Type 0 where
   pub passed : (m : ℕ) → m < level → Loop S v m → LoopPasses S v m
 
 module _ {S : Steps} {v : ℕ} where
-  pub vertex-begin : {r : ℕ} → NextLevel (Loop S v) 0 r → VertexTo S v r
-  vertex-begin N = record { low = N .above; high = N .high; is-loop = N .holds; passed = λ m h o. absurd (N .between m (o .0) h o) }
+  pub vertex-begin : {r : ℕ} → First (Loop S v) 1 256 r → VertexTo S v r
+  vertex-begin N = record { low = N .from; high = N .within; is-loop = N .holds; passed = λ m h o. absurd (N .before m (o .0) h o) }
 
-  pub vertex-more : {level r : ℕ} → VertexTo S v level → LoopPasses S v level → NextLevel (Loop S v) level r → VertexTo S v r
+  pub vertex-more : {level r : ℕ} → VertexTo S v level → LoopPasses S v level → First (Loop S v) (level + 1) 256 r → VertexTo S v r
   vertex-more {level} T p N = record {
-    low = omega (arith, N .above);
-    high = N .high;
+    low = omega (arith, N .from);
+    high = N .within;
     is-loop = N .holds;
     passed = λ m g o. by-cases (decLt m level) (λ q. T .passed m q o)
-        (λ q. by-cases (ℕ-discrete m level) (λ e. subst (LoopPasses S v) (sym e) p) (λ e. absurd (N .between m (omega arith) g o)));
+        (λ q. by-cases (ℕ-discrete m level) (λ e. subst (LoopPasses S v) (sym e) p) (λ e. absurd (N .before m (omega arith) g o)));
   }
 
   pub vertex-stop : {level : ℕ} {s : Stage} {p : Place} → s ≡ Refused p → VertexTo S v level → level < 256 → LoopSaid S v level s → VertexSaid S v s

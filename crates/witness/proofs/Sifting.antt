@@ -1,16 +1,16 @@
--- Of the bits of a word those with a property, bit by bit; and of a set of two words.
-use mathlib.Core.Path.{_≡_, refl, sym, subst}
+-- Of the bits of a word those with a property, bit by bit; and of a set.
+use mathlib.Core.Path.{_≡_, sym, subst}
 use mathlib.Core.Logic.{_⊎_, inl, inr, ⊎-elim, by-cases, _↔_}
-use mathlib.Core.Bool.{Bool, true, false, cond}
-use Prim.Native.Nat.{ℕ, _+_, _%_, _<_}
-use native.Mathlib.Decide.{ℕ-discrete}
+use Prim.Native.Nat.{ℕ, _+_, _-_, _≤_, _<_}
+use native.Mathlib.Decide.{decLt}
 use native.Mathlib.Omega.{arith}
-use borrow.Author.Tests.{ltb-true, ltb-false}
-use lib.Dec.{ltb}
-use Rattle.bits.specs.Words.{On, With, Without, Has}
+use Rattle.bits.specs.declared.sets.Set.{Set}
+use Rattle.bits.specs.Words.{On, With, Without}
+use Rattle.bits.specs.Sets.{Has, Empty, Members, Difference}
+use Rattle.bits.proofs.Gains.{taken-less, taken-or}
+use Rattle.bits.proofs.Members.{zero-off, low-has, high-has, has-low, has-high, has?}
+use Rattle.theory.proofs.Search.{look-below}
 use Rattle.witness.specs.Loops.{WithIf}
-use Rattle.bits.proofs.Sets.{zero-off, has-but, none}
-use Rattle.bits.proofs.Unions.{taken-less, taken-or}
 
 -- of the bits of a word without those that are left, found has those with P
 pub record Sifting (P : ℕ → Type 0) (word left found : ℕ) : Type 0 where
@@ -45,18 +45,31 @@ module _ {P : ℕ → Type 0} {word left found : ℕ} (S : Sifting P word left f
   pub sift-all : left ≡ 0 → (k : ℕ) → On found k ↔ (On word k × P k)
   sift-all e k = (S .only k, λ (h, p). ⊎-elim (λ g. g) (λ g. absurd (zero-off k (rw e at g))) (S .come k h p))
 
--- OF A SET
-module _ (P : ℕ → Type 0) (lo hi r₀ r₁ : ℕ) (f : (k : ℕ) → On r₀ k ↔ (On lo k × P (0 + k))) (g : (k : ℕ) → On r₁ k ↔ (On hi k × P (64 + k))) where
-  pub sifted : (w : ℕ) → w < 128 → Has r₀ r₁ w ↔ (Has lo hi w × P w)
-  sifted w m = pick (ltb w 64) refl
-    where
-      pick : (b : Bool) → ltb w 64 ≡ b → On (cond b r₀ r₁) (w % 64) ↔ (On (cond b lo hi) (w % 64) × P w)
-      pick true e = let z : 0 + w % 64 ≡ w = omega (arith, ltb-true w 64 e) in subst (λ (x : ℕ). On r₀ (w % 64) ↔ (On lo (w % 64) × P x)) z (f (w % 64))
-      pick false e = let z : 64 + w % 64 ≡ w = omega (arith, ltb-false w 64 e) in subst (λ (x : ℕ). On r₁ (w % 64) ↔ (On hi (w % 64) × P x)) z (g (w % 64))
+-- OF A SET, by its two words
+pub sifted : (P : ℕ → Type 0) (s r : Set) → ((k : ℕ) → On (r .lo) k ↔ (On (s .lo) k × P (0 + k)))
+    → ((k : ℕ) → On (r .hi) k ↔ (On (s .hi) k × P (64 + k))) → Members (λ (w : ℕ). Has s w × P w) r
+sifted P s r f g = record { exactly = λ w m. by-cases (decLt w 64) (low w) (λ h. high w m (omega (arith, h))) }
+  where
+    low : (w : ℕ) → w < 64 → Has r w ↔ (Has s w × P w)
+    low w l = let e : 0 + w ≡ w = omega arith in (
+      (λ h. let (on, p) = f w .0 (has-low r w l h) in (low-has s w l on, rw e at p)),
+      (λ (h, p). low-has r w l (f w .1 (has-low s w l h, rw e p))),
+    )
 
-  -- where no other bits are left, all have P
-  pub all-sifted : {d₀ d₁ : ℕ} → ((k : ℕ) → On d₀ k ↔ (On lo k × (¬ On r₀ k))) → ((k : ℕ) → On d₁ k ↔ (On hi k × (¬ On r₁ k))) → d₀ ≡ 0 → d₁ ≡ 0 → (w : ℕ) → w < 128 → Has lo hi w → P w
-  all-sifted {d₀} {d₁} p q e z w m h = by-cases on (λ s. sifted w m .0 s .1) (λ n. absurd (none w (rw (e, z) at (has-but lo hi r₀ r₁ d₀ d₁ p q w .1 (h, n)))))
-    where
-      on : Dec (Has r₀ r₁ w)
-      on = ℕ-discrete _ 1
+    high : (w : ℕ) → w < 128 → 64 ≤ w → Has r w ↔ (Has s w × P w)
+    high w m h =
+        let l : w - 64 < 64 = omega (arith, m, h) in
+        let e : 64 + (w - 64) ≡ w = omega (arith, h) in
+        subst (λ (x : ℕ). Has r x ↔ (Has s x × P x)) e (
+          (λ k. let (on, p) = g (w - 64) .0 (has-high r (w - 64) l k) in (high-has s (w - 64) l on, p)),
+          (λ (k, p). high-has r (w - 64) l (g (w - 64) .1 (has-high s (w - 64) l k, p))),
+        )
+
+-- where nothing else is left, all have P
+pub all-sifted : {P : ℕ → Type 0} {s r d : Set} → Members (λ (w : ℕ). Has s w × P w) r → Difference s r d → Empty d
+    → (w : ℕ) → Has s w → P w
+all-sifted {r = r} M D E w h = by-cases (has? r w) (λ k. M .exactly w (h .below) .0 k .1) (λ n. absurd (E w (D w .1 (h, n))))
+
+-- a set that is not empty has a member
+pub some-member : (s : Set) → ¬ Empty s → (w : ℕ) × Has s w
+some-member s n = elim (look-below (has? s) 128) [ inl (w, l, h) ↦ (w, h) | inr none ↦ absurd (n (λ w h. none w (h .below) h)) ]

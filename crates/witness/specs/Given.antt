@@ -1,26 +1,28 @@
 -- What the checks of a labelling are given, and what is worked out of it once.
-use Prim.Native.Nat.{ℕ, min, _+_, _*_, _≤_, _<_}
+use Prim.Native.Nat.{ℕ, min, _+_, _*_, _/_, _%_, _≤_, _<_}
 use mathlib.Core.Path.{_≡_}
 use mathlib.Core.Logic.{_⊎_, _↔_}
 use mathlib.Core.List.{List}
 use lib.ListN.{length, getD}
-use Rattle.bits.specs.Words.{Has, HasRow}
-use Rattle.theory.specs.Paths.{Edges, Plus}
+use Rattle.bits.specs.First.{First}
+use Rattle.bits.specs.declared.sets.Set.{Set}
+use Rattle.bits.specs.Sets.{Has, Members, sizeOf}
+use Rattle.bits.specs.Tables.{rowOf, HasRow, Table}
+use Rattle.theory.specs.Paths.{Edges}
 use Rattle.theory.specs.Charts.{Steps, Any, Branch, Loop}
+use Rattle.theory.specs.Checks.{Unreached}
 use Rattle.report.specs.declared.Stage.the-variants.{Passed}
-use Rattle.chart.specs.Bodies.{verticesOf, countOf}
+use Rattle.chart.specs.Bodies.{verticesOf, startOf, countOf}
 use Rattle.chart.specs.Checks.{checkOf}
-use Rattle.chart.specs.Leaving.{Rows}
+use Rattle.chart.specs.Leaving.{Begins}
+use Rattle.chart.specs.Sets.{Known}
 use Rattle.chart.specs.Steps.{StepsOf}
-use Rattle.witness.specs.declared.tables.Row.{Row}
-use Rattle.witness.specs.Lowest.{Lowest}
-use Rattle.bits.specs.Counts.{bitsBelow}
-use Rattle.bits.specs.Tables.{Table}
+use Rattle.witness.specs.declared.tables.Outgoing.{Outgoing}
 
--- 20, 21 and 30 pass, and rows says where the transitions of each vertex begin
-pub record Given (b labels rows : List ℕ) : Type 0 where
+-- 20, 21 and 30 pass, and begins says where the transitions of each vertex begin
+pub record Given (b labels begins : List ℕ) : Type 0 where
   pub passed : checkOf b ≡ Passed
-  pub begins : Rows b rows
+  pub of-begins : Begins b begins
   pub long : length labels ≡ countOf b
 
 -- entry transitions
@@ -38,21 +40,21 @@ EntersHigh S l u = (m : ℕ) × Loop S u m × (l ≤ m)
 -- for each vertex the lowest level of its entries, or 256 where it has none
 pub record LowestLevels (S : Steps) (low : List ℕ) : Type 0 where
   pub long : length low ≡ 128
-  pub each : (v : ℕ) → v < 128 → Lowest (Loop S v) 256 (getD low v 0)
+  pub each : (v : ℕ) → v < 128 → First (Loop S v) 0 256 (getD low v 0)
 
--- for each vertex what it reaches by one branch or more
-pub record Afterwards (n : ℕ) (S : Steps) (after : List ℕ) : Type 0 where
-  pub long : length after ≡ 256
-  pub exactly : (x y : ℕ) → x < n → y < 128 → HasRow after x y ↔ Plus (Branch S) x y
-
--- what the loops are checked by: where the branches of each vertex lead to, by one step and by more, where its entries lead to and
--- their lowest level, and which vertices have an entry of each level or a higher one
+-- what the loops are checked by: where the branches of each vertex lead to, by one step and by more, where its
+-- entries lead to and their lowest level, and which vertices have an entry of each level or a higher one
 pub record Tables (b labels branches after entries low high : List ℕ) : Type 0 where
   pub of-branches : Table 128 (Branch (StepsOf b labels)) branches
-  pub of-after : Afterwards (verticesOf b) (StepsOf b labels) after
+  pub after-long : length after ≡ 256
+  pub of-after : Known branches after 0 (verticesOf b)
   pub of-entries : Table 128 (Entry (StepsOf b labels)) entries
   pub of-low : LowestLevels (StepsOf b labels) low
   pub of-levels : Table 256 (EntersHigh (StepsOf b labels)) high
+
+-- r is the lowest vertex that the start does not reach, or V
+abbrev pub FirstUnreached : List ℕ → List ℕ → ℕ → Type 0
+FirstUnreached b labels r = First (Unreached (verticesOf b) (StepsOf b labels) (startOf b)) 0 (verticesOf b) r
 
 -- WHAT IS COLLECTED
 abbrev pub NoSteps : Steps
@@ -63,20 +65,28 @@ abbrev pub FirstOf : ℕ → Steps → Steps
 FirstOf n S u l w = (u < n) × S u l w
 
 -- where the transitions of u lead to, and the lowest level of its entries, or 256 where it has none
-pub record RowOf (S : Steps) (u : ℕ) (r : Row) : Type 0 where
-  pub of-branches : (w : ℕ) → w < 128 → Has (r .branches0) (r .branches1) w ↔ Branch S u w
-  pub of-entries : (w : ℕ) → w < 128 → Has (r .entries0) (r .entries1) w ↔ Entry S u w
-  pub of-low : Lowest (Loop S u) 256 (r .low)
+pub record OutgoingOf (S : Steps) (u : ℕ) (r : Outgoing) : Type 0 where
+  pub of-branches : Members (Branch S u) (r .branches)
+  pub of-entries : Members (Entry S u) (r .entries)
+  pub of-low : First (Loop S u) 0 256 (r .low)
+
+-- r has what s has, and where C holds w too
+abbrev pub WithWhere : Type 0 → ℕ → Set → Set → Type 0
+WithWhere C w s r = (y : ℕ) → Has r y ↔ (Has s y ⊎ (C × (y ≡ w)))
 
 -- r is s with one transition more, which has this label and leads to w
-pub record RowWith (s : Row) (label w : ℕ) (r : Row) : Type 0 where
-  pub branches : (y : ℕ) → y < 128 → Has (r .branches0) (r .branches1) y ↔ (Has (s .branches0) (s .branches1) y ⊎ ((label ≡ 0) × (y ≡ w)))
-  pub entries : (y : ℕ) → y < 128 → Has (r .entries0) (r .entries1) y ↔ (Has (s .entries0) (s .entries1) y ⊎ ((0 < label) × (y ≡ w)))
+pub record OutgoingWith (s : Outgoing) (label w : ℕ) (r : Outgoing) : Type 0 where
+  pub branches : WithWhere (label ≡ 0) w (s .branches) (r .branches)
+  pub entries : WithWhere (0 < label) w (s .entries) (r .entries)
   pub as-before : label ≡ 0 → r .low ≡ s .low
   pub lowered : 0 < label → r .low ≡ min (s .low) label
 
--- for each vertex where its transitions, its branches and its entries lead to, and their lowest level; for each level the vertices
--- with an entry of it
+-- the levels of u's entries, by vertex: u in the set of each of them
+abbrev pub EntersFrom : ℕ → Steps → ℕ → ℕ → Type 0
+EntersFrom u S l x = (x ≡ u) × Enters S l x
+
+-- for each vertex where its transitions, its branches and its entries lead to, and their lowest level; for each level
+-- the vertices with an entry of it
 pub record Collected (S : Steps) (next branches entries low entered : List ℕ) : Type 0 where
   pub of-next : Table 128 (Any S) next
   pub of-branches : Table 128 (Branch S) branches
@@ -91,8 +101,25 @@ pub record HighestLabel (labels : List ℕ) (r : ℕ) : Type 0 where
 
 -- the sets of a table after set top have nothing
 abbrev pub NoneAbove : List ℕ → ℕ → Type 0
-NoneAbove a top = (x y : ℕ) → top < x → x < 256 → y < 128 → ¬ HasRow a x y
+NoneAbove a top = (x y : ℕ) → top < x → x < 256 → ¬ HasRow a x y
 
--- how many numbers set l of a table has
-abbrev pub sizeOf : List ℕ → ℕ → ℕ
-sizeOf a l = bitsBelow (getD a (2 * l) 0) 64 + bitsBelow (getD a (2 * l + 1) 0) 64
+-- a set of the table after set x has y
+abbrev pub InLater : List ℕ → ℕ → ℕ → Type 0
+InLater a x y = (m : ℕ) × (x < m) × (m < 256) × HasRow a m y
+
+-- how many numbers the sets 2 k and 2 k + 1 of a table have
+abbrev pub sizesOf : List ℕ → ℕ → ℕ
+sizesOf a k = sizeOf (rowOf a (2 * k)) + sizeOf (rowOf a (2 * k + 1))
+
+-- THE LOOPS OF ONE VERTEX
+-- l is among the levels, a table of two sets
+abbrev pub IsLevel : List ℕ → ℕ → Type 0
+IsLevel a l = HasRow a (l / 128) (l % 128)
+
+-- v has an entry of the level that stands in set x as y
+abbrev pub EntryLevels : Steps → ℕ → ℕ → ℕ → Type 0
+EntryLevels S v x y = Loop S v (128 * x + y)
+
+-- an entry of v of level l leads to w
+abbrev pub EntryTargets : Steps → ℕ → ℕ → ℕ → Type 0
+EntryTargets S v l w = (0 < l) × S v l w

@@ -5,9 +5,10 @@ mod reached;
 mod tables;
 
 use bits::byte;
+use chart::sets::cycle;
 use loop_checks::loops_check;
-use reached::branch_cycle;
 use reached::unreached;
+use report::Labelled;
 use report::Place;
 use report::Stage;
 use tables::collect;
@@ -17,12 +18,6 @@ use tables::top_label;
 ghost use mathlib.Core.Path.{_≡_};
 ghost use Rattle.chart.specs.Checks.{checkOf};
 ghost use Rattle.witness.specs.Labellings.{labelledOf};
-
-// What the checks of a labelling say: the number of loops, or a refusal.
-pub enum Labelled {
-    Passed(usize),
-    Refused(Place),
-}
 
 // What 30 to 35 say of a labelling beside a chart body that 20 and 21 let pass.
 pub fn check(body: &[u8], labels: &[u8]) -> Labelled
@@ -38,11 +33,11 @@ pub fn check(body: &[u8], labels: &[u8]) -> Labelled
     let mut entries = [0u64; 256];
     let mut low = [256usize; 128];
     let mut high = [0u64; 512];
-    let rows = chart::rows(body);
+    let begins = chart::begins(body);
     collect(
         body,
         labels,
-        &rows,
+        &begins,
         n,
         &mut next,
         &mut branches,
@@ -54,8 +49,9 @@ pub fn check(body: &[u8], labels: &[u8]) -> Labelled
     if p < n {
         return Labelled::Refused(Place::Unreached(p));
     }
+    // where there is no cycle, `after` has what each vertex reaches by branches
     let mut after = [0u64; 256];
-    let c = branch_cycle(body, &branches, &mut after);
+    let c = cycle(&branches, n, &mut after);
     if c < n {
         return Labelled::Refused(Place::BranchCycle(c));
     }
@@ -65,7 +61,7 @@ pub fn check(body: &[u8], labels: &[u8]) -> Labelled
     match loops_check(
         body,
         labels,
-        &rows,
+        &begins,
         &branches,
         &after,
         &entries,

@@ -1,44 +1,38 @@
 // The transitions of a labelled chart as tables of sets of vertices.
+use bits::Set;
 use bits::byte;
-use bits::count;
-use bits::either;
-use bits::high_with;
-use bits::insert;
-use bits::join;
-use bits::low_with;
-use chart::sets::put_row;
+use bits::tables::insert;
+use bits::tables::join;
+use bits::tables::put_row;
+use bits::tables::row;
 ghost use mathlib.Core.Path.{_≡_};
 ghost use mathlib.Core.List.{List};
 ghost use Prim.Native.Nat.{ℕ, min, max, _+_, _*_, _≤_, _<_};
 ghost use lib.ListN.{length};
 ghost use Rattle.bits.specs.Bits.{Bytes};
-ghost use Rattle.bits.specs.Words.{HasRow};
 ghost use Rattle.bits.specs.Tables.{Table, Gains, When};
 ghost use Rattle.chart.specs.Bodies.{verticesOf};
 ghost use Rattle.chart.specs.Checks.{checkOf};
 ghost use Rattle.chart.specs.Steps.{StepsOf};
-ghost use Rattle.witness.specs.Given.{Given, Enters, NoSteps, RowOf, RowWith, Collected, HighestLabel, NoneAbove, sizeOf};
+ghost use Rattle.witness.specs.Given.{Given, Enters, EntersFrom, NoSteps, OutgoingOf, OutgoingWith};
+ghost use Rattle.witness.specs.Given.{Collected, HighestLabel, NoneAbove, InLater, sizesOf};
 ghost use Rattle.witness.specs.Labellings.{loopsOf};
 use report::Stage;
 
 // Where transitions of a vertex lead: the branches, the entries, and the lowest level of those, or 256.
-pub struct Row {
-    pub branches0: u64,
-    pub branches1: u64,
-    pub entries0: u64,
-    pub entries1: u64,
+pub struct Outgoing {
+    pub branches: Set,
+    pub entries: Set,
     pub low: usize,
 }
 
-// The row of a vertex without transitions.
-fn empty_row() -> Row
-    ensures { λ r. ⌜ ((u : ℕ) → RowOf NoSteps u r) ⌝ }
+// No transitions.
+fn none_outgoing() -> Outgoing
+    ensures { λ r. ⌜ ((u : ℕ) → OutgoingOf NoSteps u r) ⌝ }
 {
-    Row {
-        branches0: 0,
-        branches1: 0,
-        entries0: 0,
-        entries1: 0,
+    Outgoing {
+        branches: Set::empty(),
+        entries: Set::empty(),
         low: 256,
     }
 }
@@ -51,66 +45,75 @@ fn lesser(a: usize, b: usize) -> usize
 }
 
 // One branch more, to w.
-fn with_branch(row: Row, w: usize) -> Row
+fn with_branch(out: Outgoing, w: usize) -> Outgoing
     requires { ⌜ w < 128 ⌝ }
-    ensures { λ r. ⌜ RowWith row 0 w r ⌝ }
+    ensures { λ r. ⌜ OutgoingWith out 0 w r ⌝ }
 {
-    Row {
-        branches0: low_with(row.branches0, w),
-        branches1: high_with(row.branches1, w),
-        entries0: row.entries0,
-        entries1: row.entries1,
-        low: row.low,
+    let branches = out.branches;
+    let entries = out.entries;
+    Outgoing {
+        branches: branches.with(w),
+        entries,
+        low: out.low,
     }
 }
 
 // One entry more, to w.
-fn with_entry(row: Row, level: usize, w: usize) -> Row
+fn with_entry(out: Outgoing, level: usize, w: usize) -> Outgoing
     requires { ⌜ (0 < level) × (w < 128) ⌝ }
-    ensures { λ r. ⌜ RowWith row level w r ⌝ }
+    ensures { λ r. ⌜ OutgoingWith out level w r ⌝ }
 {
-    Row {
-        branches0: row.branches0,
-        branches1: row.branches1,
-        entries0: low_with(row.entries0, w),
-        entries1: high_with(row.entries1, w),
-        low: lesser(row.low, level),
+    let branches = out.branches;
+    let entries = out.entries;
+    Outgoing {
+        branches,
+        entries: entries.with(w),
+        low: lesser(out.low, level),
     }
 }
 
 // One transition of u more, to w. Where it is an entry, u comes into the set of its level.
-fn with_step(row: Row, label: usize, w: usize, u: usize, entered: &mut [u64]) -> Row
+fn with_step(out: Outgoing, label: usize, w: usize, u: usize, entered: &mut [u64]) -> Outgoing
     requires { ⌜ (length (now entered) ≡ 512) × (label < 256) × (w < 128) × (u < 128) ⌝ }
-    ensures { λ r. ⌜ RowWith row label w r × Gains (When (0 < label) label u) (now (entered .entry)) (now (entered .exit)) ⌝ }
+    ensures { λ r. ⌜ OutgoingWith out label w r
+        × Gains (When (0 < label) label u) (now (entered .entry)) (now (entered .exit)) ⌝ }
 {
     if label == 0 {
-        return with_branch(row, w);
+        return with_branch(out, w);
     }
     insert(entered, label, u);
-    with_entry(row, label, w)
+    with_entry(out, label, w)
 }
 
-// The row of u. It comes into the sets of the levels of its entries.
-fn row_of(body: &[u8], labels: &[u8], rows: &[usize; 129], u: usize, entered: &mut [u64]) -> Row
-    requires { ⌜ Given (now body) (now labels) (now rows) × (u < 128) × (length (now entered) ≡ 512) ⌝ }
-    ensures { λ r. ⌜ RowOf (StepsOf (now (body .entry)) (now (labels .entry))) u r × Gains (λ (l x : ℕ). (x ≡ u) × Enters (StepsOf (now (body .entry)) (now (labels .entry))) l x) (now (entered .entry)) (now (entered .exit)) ⌝ }
+// The transitions of u. It comes into the sets of the levels of its entries.
+fn outgoing_of(
+    body: &[u8],
+    labels: &[u8],
+    begins: &[usize; 129],
+    u: usize,
+    entered: &mut [u64],
+) -> Outgoing
+    requires { ⌜ Given (now body) (now labels) (now begins) × (u < 128) × (length (now entered) ≡ 512) ⌝ }
+    ensures { λ r. ⌜ OutgoingOf (StepsOf (now (body .entry)) (now (labels .entry))) u r
+        × Gains (EntersFrom u (StepsOf (now (body .entry)) (now (labels .entry))))
+        (now (entered .entry)) (now (entered .exit)) ⌝ }
 {
-    let end = rows[u + 1];
-    let mut row = empty_row();
-    let mut i = rows[u];
+    let end = begins[u + 1];
+    let mut out = none_outgoing();
+    let mut i = begins[u];
     while i < end {
         let w = byte(body, 4 * i + 4 + 2);
-        row = with_step(row, byte(labels, i), w, u, entered);
+        out = with_step(out, byte(labels, i), w, u, entered);
         i += 1;
     }
-    row
+    out
 }
 
 // Puts all transitions into the tables, vertex by vertex.
 pub(crate) fn collect(
     body: &[u8],
     labels: &[u8],
-    rows: &[usize; 129],
+    begins: &[usize; 129],
     n: usize,
     next: &mut [u64; 256],
     branches: &mut [u64; 256],
@@ -118,21 +121,21 @@ pub(crate) fn collect(
     low: &mut [usize; 128],
     entered: &mut [u64],
 )
-    requires { ⌜ Given (now body) (now labels) (now rows) × (n ≡ verticesOf (now body)) × Collected NoSteps (now next) (now branches) (now entries) (now low) (now entered) ⌝ }
-    ensures { λ _. ⌜ Collected (StepsOf (now (body .entry)) (now (labels .entry))) (now (next .exit)) (now (branches .exit)) (now (entries .exit)) (now (low .exit)) (now (entered .exit)) ⌝ }
+    requires { ⌜ Given (now body) (now labels) (now begins)
+        × (n ≡ verticesOf (now body))
+        × Collected NoSteps (now next) (now branches) (now entries) (now low) (now entered) ⌝ }
+    ensures { λ _. ⌜ Collected (StepsOf (now (body .entry)) (now (labels .entry)))
+        (now (next .exit)) (now (branches .exit)) (now (entries .exit)) (now (low .exit)) (now (entered .exit)) ⌝ }
 {
     let mut u: usize = 0;
     while u < n {
-        let row = row_of(body, labels, rows, u, entered);
-        put_row(
-            next,
-            u,
-            either(row.branches0, row.entries0),
-            either(row.branches1, row.entries1),
-        );
-        put_row(branches, u, row.branches0, row.branches1);
-        put_row(entries, u, row.entries0, row.entries1);
-        low[u] = row.low;
+        let out = outgoing_of(body, labels, begins, u, entered);
+        let by_branch = out.branches;
+        let by_entry = out.entries;
+        put_row(next, u, by_branch.union(by_entry));
+        put_row(branches, u, by_branch);
+        put_row(entries, u, by_entry);
+        low[u] = out.low;
         u += 1;
     }
 }
@@ -160,22 +163,21 @@ pub(crate) fn top_label(labels: &[u8]) -> usize
 // How many numbers the sets of the levels 2 k and 2 k + 1 have. Those of most levels have none, which is seen at once.
 fn sizes(entered: &[u64; 512], k: usize) -> usize
     requires { ⌜ (length (now entered) ≡ 512) × (k < 128) ⌝ }
-    ensures { λ r. ⌜ (r ≡ sizeOf (now (entered .entry)) (2 * k) + sizeOf (now (entered .entry)) (2 * k + 1)) × (r ≤ 256) ⌝ }
+    ensures { λ r. ⌜ (r ≡ sizesOf (now (entered .entry)) k) × (r ≤ 256) ⌝ }
 {
-    let a = entered[4 * k];
-    let b = entered[4 * k + 1];
-    let c = entered[4 * k + 2];
-    let d = entered[4 * k + 3];
-    if (a == 0) & (b == 0) & (c == 0) & (d == 0) {
+    let a = row(entered, 2 * k);
+    let b = row(entered, 2 * k + 1);
+    if a.is_empty() & b.is_empty() {
         return 0;
     }
-    count(a) + count(b) + (count(c) + count(d))
+    a.count() + b.count()
 }
 
 // The number of loops, by the vertices that have an entry of each level up to the highest.
 pub(crate) fn count_loops(entered: &[u64; 512], top: usize) -> usize
     requires { ⌜ (length (now entered) ≡ 512) × (top < 256) × NoneAbove (now entered) top ⌝ }
-    ensures { λ r. ⌜ ((b labels : List ℕ) → checkOf b ≡ Stage.Passed → Bytes labels → Table 256 (Enters (StepsOf b labels)) (now (entered .entry)) → r ≡ loopsOf b labels) ⌝ }
+    ensures { λ r. ⌜ ((b labels : List ℕ) → checkOf b ≡ Stage.Passed → Bytes labels
+        → Table 256 (Enters (StepsOf b labels)) (now (entered .entry)) → r ≡ loopsOf b labels) ⌝ }
 {
     let mut loops: usize = 0;
     let mut k: usize = 0;
@@ -189,13 +191,12 @@ pub(crate) fn count_loops(entered: &[u64; 512], top: usize) -> usize
 // Each of the 256 sets with what the later ones have. Those after `top` have nothing.
 pub(crate) fn join_later(table: &mut [u64], top: usize)
     requires { ⌜ (length (now table) ≡ 512) × (top < 256) × NoneAbove (now table) top ⌝ }
-    ensures { λ _. ⌜ Gains (λ (x y : ℕ). (m : ℕ) × (x < m) × (m < 256) × HasRow (now (table .entry)) m y) (now (table .entry)) (now (table .exit)) ⌝ }
+    ensures { λ _. ⌜ Gains (InLater (now (table .entry))) (now (table .entry)) (now (table .exit)) ⌝ }
 {
     let mut l = top;
     while 0 < l {
-        let lo = table[2 * l];
-        let hi = table[2 * l + 1];
+        let set = row(table, l);
         l -= 1;
-        join(table, l, lo, hi);
+        join(table, l, set);
     }
 }

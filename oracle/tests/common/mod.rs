@@ -49,3 +49,12 @@ pub fn chart(vertices: usize, start: usize, steps: &[(usize, u8, usize)]) -> Cha
 pub fn chart_of(yard: &Yard) -> Chart {
     Chart::read(&yard.chart).expect("an accepted file's chart")
 }
+
+/// What the first record holds, as far as the file goes.
+pub fn first_body(file: &[u8]) -> &[u8] {
+    let Some((length, rest)) = file.split_first_chunk::<2>() else {
+        return &[];
+    };
+    let body = rest.get(2..).unwrap_or(&[]);
+    &body[..body.len().min(u16::from_le_bytes(*length).into())]
+}

@@ -1,15 +1,16 @@
 use mathlib.Core.Path.{_∙_}
-use Rattle.chart.proofs.Checks.{well-formed}
-use Rattle.bisimulation.specs.Pairs.{Told}
-use Rattle.bisimulation.proofs.Relations.{fitting, relation-of}
-use Rattle.bisimulation.proofs.ClearLaws.{sought}
 use native.Mathlib.Omega.{arith}
+use Rattle.chart.proofs.Checks.{well-formed}
+use Rattle.bisimulation.specs.Pairs.{StepTables}
+use Rattle.bisimulation.proofs.Relations.{fitting, relation-of}
+use Rattle.bisimulation.proofs.Openings.{rows-fit}
+use Rattle.bisimulation.proofs.ClearLaws.{tabled, sought}
 use borrow.Author.Needs.{needs}
 use Rattle.bisimulation.proofs.check_pairs.Statement.{statement}
 use Rattle.bisimulation.proofs.check_pairs.Tie as tie
 
 columns-requires : tie.Need-columns-requires
-columns-requires c κs = search needs
+columns-requires c κs = rows-fit (c .before .before .pre .1)
 
 spread-rows-requires : tie.Need-spread-rows-requires
 spread-rows-requires c κs = search needs
@@ -19,37 +20,43 @@ acting-requires c κs = search needs
 
 users-requires : tie.Need-users-requires
 users-requires c κs =
-    let p = c .before .before .before .before .before .pre in
-    (p .3 .words-long, p .2, λ u k on. omega (arith, p .3 .known u k on, p .3 .few))
+    let p = c .before .before .before .before .before .pre .1 in
+    let C = p .1 .numbered .coded in
+    (C .words-long, rows-fit p .1, λ u k on. omega (arith, C .known u k on, C .few))
 
 used-requires : tie.Need-used-requires
-used-requires c κs = search needs
+used-requires c κs = let p = c .before .before .before .before .before .before .pre .1 in (p .1 .numbered .coded .words-long, rows-fit p .1)
 
-rows-requires : tie.Need-rows-requires
-rows-requires c κs = search needs
+begins-requires : tie.Need-begins-requires
+begins-requires c κs = search needs
 
 gather-requires : tie.Need-gather-requires
-gather-requires c κs = (
-  well-formed _ (c .before .before .before .before .before .before .before .before .before .before .before .before .before .pre .0),
-  c .before .before .before .before .before .before .before .before .before .before .columns .ensures .long,
-  record { into-long = c .before .before .before .before .before .before .before .before .before .spread-rows .ensures .long; acting-long = c .before .before .before .before .before .before .before .before .acting .ensures .long; users-long = c .before .before .before .before .before .before .before .users .ensures .long },
-  c .before .before .before .before .before .rows .ensures,
-)
+gather-requires c κs =
+    let p = c .before .before .before .before .before .before .before .before .before .before .before .before .before .pre in (
+      tabled (c .before .before .before .before .before .before .before .before .before .spread-rows .ensures .long) (c .before .before .before .before .before .before .before .before .acting .ensures) (p .1 .1 .numbered .coded .few) (well-formed _ (p .0)),
+      c .before .before .before .before .before .before .before .users .ensures .long,
+      c .before .before .before .before .before .begins .ensures,
+      c .before .before .before .before .before .before .before .before .before .before .columns .ensures .long,
+    )
 
 search-requires : tie.Need-search-requires
 search-requires c κs =
     let p = c .before .before .before .before .before .before .before .before .before .before .before .before .before .before .before .before .before .before .pre in
-    (record { into-long = c .before .before .before .before .before .before .before .before .before .before .before .before .before .before .spread-rows .ensures .long; acting-long = c .before .before .before .before .before .before .before .before .before .before .before .before .before .acting .ensures .long; words-long = p .3 .words-long; formed = well-formed _ (p .0); parted = c .before .before .before .before .before .before .before .before .before .before .rows .ensures }, c .before .before .before .before .gather .ensures .long, p .2)
+    let T = tabled (c .before .before .before .before .before .before .before .before .before .before .before .before .before .before .spread-rows .ensures .long) (c .before .before .before .before .before .before .before .before .before .before .before .before .before .acting .ensures) (p .1 .1 .numbered .coded .few) (well-formed _ (p .0)) in
+    (record { tabled = T; words-long = p .1 .1 .numbered .coded .words-long; parted = c .before .before .before .before .before .before .before .before .before .before .begins .ensures }, c .before .before .before .before .gather .ensures .long, rows-fit (p .1) .1)
 
 returns : tie.Need-returns
-returns c = λ e q v N F z.
+returns c = λ e N.
     let k = c .before .before .before .before .before .before .before .before .before .before .before .before .before .before .before .before .before .before .before in
     let p = k .pre in
-    let T : Told (c .before .before .before .before .before .before .before .before .before .before .before .before .before .before .before .spread-rows .result) (c .before .before .before .before .before .before .before .before .before .before .before .before .before .before .acting .result) (k .args .words .now) e (k .args .relation .now) =
-    record { formed = well-formed e q; keys = k .args .keys .now; m = k .args .m; numbered = N; spread = c .before .before .before .before .before .before .before .before .before .before .before .before .before .before .before .spread-rows .ensures; acts = c .before .before .before .before .before .before .before .before .before .before .before .before .before .before .acting .ensures } in
-    let S = sought {used = c .before .before .before .before .before .before .before .before .before .before .before .before .used .result} (λ j. omega (arith, c .before .before .before .before .before .before .before .before .before .before .before .before .before .before .before .before .before .before .shared-slice-known .given j)) (well-formed _ (p .0)) T (c .before .before .before .before .before .before .before .before .before .before .before .before .before .users .ensures) (c .before .before .before .before .before .before .before .before .before .before .before .before .used .ensures) (p .2) v (c .before .before .before .before .before .before .before .before .before .before .before .before .before .before .before .before .columns .ensures) (c .before .before .before .before .before .gather .ensures) F in
-    let (o, h, s) = c .search .ensures e (k .args .relation .now) S v z in
-    s ∙ relation-of (fitting F h)
+    let into = c .before .before .before .before .before .before .before .before .before .before .before .before .before .before .before .spread-rows in
+    let acting = c .before .before .before .before .before .before .before .before .before .before .before .before .before .before .acting in
+    let T : StepTables (into .result) (acting .result) (k .args .words .now) e (k .args .relation .now) =
+    record { formed = well-formed e (N .passes); keys = k .args .keys .now; m = k .args .m; numbered = N .numbered; spread = into .ensures; acts = acting .ensures } in
+    let used = c .before .before .before .before .before .before .before .before .before .before .before .before .used in
+    let S = sought {used = used .result} (λ j. omega (arith, c .before .before .before .before .before .before .before .before .before .before .before .before .before .before .before .before .before .before .shared-slice-known .given j)) (well-formed _ (p .0)) T (rows-fit (p .1) .1) (c .before .before .before .before .before .before .before .before .before .before .before .before .before .users .ensures) (used .ensures) (N .size) (c .before .before .before .before .before .before .before .before .before .before .before .before .before .before .before .before .columns .ensures) (c .before .before .before .before .before .gather .ensures) (N .fits) in
+    let (o, h, s) = c .search .ensures e (k .args .relation .now) S (N .size) (N .starts) in
+    s ∙ relation-of (fitting (N .fits) h)
 
 pub check-pairs-spec : {M : Type 1} → statement M
 check-pairs-spec =
@@ -60,7 +67,7 @@ check-pairs-spec =
     acting-requires
     users-requires
     used-requires
-    rows-requires
+    begins-requires
     gather-requires
     search-requires
     returns)

@@ -1,7 +1,10 @@
+use mathlib.Core.Path.{sym, _∙_}
+use mathlib.Core.Bool.{false≢true}
 use borrow.Author.Tests.{not-true, not-false}
+use native.Mathlib.Omega.{arith}
 use Rattle.chart.proofs.Checks.{well-formed}
 use Rattle.bisimulation.proofs.Openings.{opening-40, opening-41, opening-42, opening-passed}
-use native.Mathlib.Omega.{arith}
+use Rattle.bisimulation.proofs.RowLaws.{has-related}
 use borrow.Author.Needs.{needs}
 use Rattle.bisimulation.proofs.opening.Statement.{statement}
 use Rattle.bisimulation.proofs.opening.Tie as tie
@@ -10,10 +13,10 @@ mul-if1 : tie.Need-mul-if1
 mul-if1 c = search needs
 
 returns : tie.Need-returns
-returns c = opening-40 _ _ (c .if1 .taken)
+returns c = opening-40 _ _ _ _ (c .if1 .taken)
 
 strays-requires : tie.Need-strays-requires
-strays-requires c κs = (c .before .before .before .pre .0, c .if1 .left)
+strays-requires c κs = search needs
 
 enum-told : tie.Need-enum-told
 enum-told c = search needs
@@ -22,19 +25,28 @@ enum-told-2 : tie.Need-enum-told-2
 enum-told-2 c = search needs
 
 returns-2 : tie.Need-returns-2
-returns-2 c = opening-41 _ _ (c .before .before .before .if1 .left) (c .before .before .strays .ensures) (c .enum-told2 .given .1)
+returns-2 c = opening-41 _ _ _ _ (c .before .before .before .if1 .left) (c .before .before .strays .ensures) (c .enum-told2 .given .1)
 
 byte-requires : tie.Need-byte-requires
 byte-requires c κs = let l = well-formed _ (c .before .before .before .before .before .before .pre .0) .header .long in omega arith
 
-related-requires : tie.Need-related-requires
-related-requires c κs = omega (arith, c .before .before .before .before .before .before .before .pre .2, c .before .before .before .before .if1 .left)
+read-row-requires : tie.Need-read-row-requires
+read-row-requires c κs = search needs
+
+contains-requires : tie.Need-contains-requires
+contains-requires c κs = search needs
 
 returns-3 : tie.Need-returns-3
-returns-3 c = opening-42 _ _ (c .before .before .before .before .before .before .if1 .left) (c .before .before .before .before .before .strays .ensures) (c .before .before .before .enum-told .given .1) (c .before .before .byte .ensures .0) (c .before .related .ensures) (not-true _ (c .if2 .taken))
+returns-3 c =
+    let M = c .before .before .read-row .ensures in
+    opening-42 _ _ _ _ (c .before .before .before .before .before .before .before .if1 .left) (c .before .before .before .before .before .before .strays .ensures) (c .before .before .before .before .enum-told .given .1) (c .before .before .before .byte .ensures .0)
+    (λ r. false≢true (sym (not-true _ (c .if2 .taken)) ∙ c .before .contains .ensures .1 (has-related _ _ M _ .1 r)))
 
 returns-4 : tie.Need-returns-4
-returns-4 c = opening-passed _ _ (c .before .before .before .before .before .before .if1 .left) (c .before .before .before .before .before .strays .ensures) (c .before .before .before .enum-told .given .1) (c .before .before .byte .ensures .0) (c .before .related .ensures) (not-false _ (c .if2 .left))
+returns-4 c =
+    let M = c .before .before .read-row .ensures in
+    opening-passed _ _ _ _ (c .before .before .before .before .before .before .before .if1 .left) (c .before .before .before .before .before .before .strays .ensures) (c .before .before .before .before .enum-told .given .1) (c .before .before .before .byte .ensures .0)
+    (has-related _ _ M _ .0 (c .before .contains .ensures .0 (not-false _ (c .if2 .left))))
 
 pub opening-spec : {M : Type 1} → statement M
 opening-spec =
@@ -47,6 +59,7 @@ opening-spec =
     enum-told-2
     returns-2
     byte-requires
-    related-requires
+    read-row-requires
+    contains-requires
     returns-3
     returns-4)

@@ -7,7 +7,7 @@ use borrow.Author.Needs.{needs}
 use Rattle.bits.specs.Bits.{Bytes}
 use Rattle.chart.specs.Bodies.{verticesOf, HeaderFits}
 use Rattle.chart.proofs.Checks.{header-true, check-header}
-use Rattle.chart.proofs.Words.{Turn, turn-start, turn-step, turn-stop, turn-end}
+use Rattle.chart.proofs.Codes.{Turn, turn-start, turn-step, turn-stop, turn-end}
 use Rattle.chart.proofs.check.Statement.{statement}
 use Rattle.chart.proofs.check.Tie as tie
 
@@ -35,14 +35,14 @@ loop-holds c =
 add-loop : tie.Need-add-loop Inv-loop μ-loop
 add-loop c = let i = c .loop .inv in omega (arith, i .1 .count-high, i .3 .place, i .3 .within)
 
-word-at-requires : tie.Need-word-at-requires Inv-loop μ-loop
-word-at-requires c κs = search needs
+read-u32-requires : tie.Need-read-u32-requires Inv-loop μ-loop
+read-u32-requires c κs = search needs
 
-turned-requires : tie.Need-turned-requires Inv-loop μ-loop
-turned-requires c κs = search needs
+reversed-requires : tie.Need-reversed-requires Inv-loop μ-loop
+reversed-requires c κs = search needs
 
-word-ok-requires : tie.Need-word-ok-requires Inv-loop μ-loop
-word-ok-requires c κs = let i = c .before .before .before .loop .inv in omega (arith, i .1 .vertices-high, i .2)
+code-ok-requires : tie.Need-code-ok-requires Inv-loop μ-loop
+code-ok-requires c κs = let i = c .before .before .before .loop .inv in omega (arith, i .1 .vertices-high, i .2)
 
 sub-t14 : tie.Need-sub-t14 Inv-loop μ-loop
 sub-t14 c = let i = c .before .before .before .before .before .loop .inv in omega (arith, i .3 .place)
@@ -51,8 +51,8 @@ returns-2 : tie.Need-returns-2 Inv-loop μ-loop
 returns-2 c =
     let t = c .before .before .before .before in
     let i = t .before .loop .inv in
-    turn-stop _ (i .0) (i .1) (i .3) (omega arith) (i .2) (c .before .before .before .word-at .ensures .0) (c .before .before .turned .ensures)
-    (sym (c .before .word-ok .ensures) ∙ not-true _ (c .if2 .taken))
+    turn-stop _ (i .0) (i .1) (i .3) (omega arith) (i .2) (c .before .before .before .read-u32 .ensures .0) (c .before .before .reversed .ensures)
+    (sym (c .before .code-ok .ensures) ∙ not-true _ (c .if2 .taken))
 
 add-p : tie.Need-add-p Inv-loop μ-loop
 add-p c = search needs
@@ -67,8 +67,8 @@ loop-again c =
       i .0,
       i .1,
       i .2,
-      turn-step _ (i .0) (i .1) (i .3) (omega arith) (i .2) (c .before .before .before .word-at .ensures .0) (c .before .before .turned .ensures)
-          (sym (c .before .word-ok .ensures) ∙ not-false _ (c .if2 .left)),
+      turn-step _ (i .0) (i .1) (i .3) (omega arith) (i .2) (c .before .before .before .read-u32 .ensures .0) (c .before .before .reversed .ensures)
+          (sym (c .before .code-ok .ensures) ∙ not-false _ (c .if2 .left)),
     )
 
 returns-3 : tie.Need-returns-3 Inv-loop μ-loop
@@ -85,9 +85,9 @@ check-spec =
     byte-requires
     loop-holds
     add-loop
-    word-at-requires
-    turned-requires
-    word-ok-requires
+    read-u32-requires
+    reversed-requires
+    code-ok-requires
     sub-t14
     returns-2
     add-p

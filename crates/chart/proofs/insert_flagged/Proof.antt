@@ -1,7 +1,7 @@
 use mathlib.Core.Path.{_≡_}
 use native.Mathlib.Omega.{arith}
 use borrow.Author.Needs.{needs}
-use Rattle.bits.proofs.Tables.{gains-none, gains-insert}
+use Rattle.bits.proofs.Gains.{gains-none, gains-insert}
 use Rattle.chart.proofs.insert_flagged.Statement.{statement}
 use Rattle.chart.proofs.insert_flagged.Tie as tie
 

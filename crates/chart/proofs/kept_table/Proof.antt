@@ -5,9 +5,9 @@ use lib.ListN.{length}
 use borrow.Author.Needs.{needs}
 use Rattle.chart.specs.Bodies.{countOf, WellFormed}
 use Rattle.bits.specs.Tables.{Table}
-use Rattle.bits.proofs.Tables.{table-as}
+use Rattle.bits.proofs.Gains.{table-as}
 use Rattle.chart.proofs.Checks.{well-formed}
-use Rattle.chart.proofs.Marking.{KeptBelow, table-none, table-more, kept-more, kept-whole, from-low, to-low}
+use Rattle.chart.proofs.Kept.{KeptBelow, table-none, table-more, kept-more, kept-whole, from-low, to-low}
 use Rattle.chart.proofs.kept_table.Statement.{statement}
 use Rattle.chart.proofs.kept_table.Tie as tie
 

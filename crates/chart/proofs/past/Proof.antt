@@ -23,7 +23,7 @@ loop-holds : tie.Need-loop-holds Inv-loop μ-loop
 loop-holds c =
     let p = c .before .before .pre in
     let s = c .skip .ensures in
-    (well-formed _ (p .0), λ k. omega (arith, c .before .shared-slice-known .given k), p .1, s .0, s .1)
+    (well-formed _ (p .passed), λ k. omega (arith, c .before .shared-slice-known .given k), p .many, s .within, s .below)
 
 mul-byte : tie.Need-mul-byte Inv-loop μ-loop
 mul-byte c = search needs

@@ -18,7 +18,7 @@ abbrev μ-loop : tie.MeasureT-loop
 loop-holds : tie.Need-loop-holds Inv-loop μ-loop
 loop-holds c =
     let p = c .before .pre in
-    (well-formed _ (p .0), λ k. omega (arith, c .shared-slice-known .given k), p .1, p .2, p .3)
+    (well-formed _ (p .passed), λ k. omega (arith, c .shared-slice-known .given k), p .many, p .within, p .below)
 
 add-loop : tie.Need-add-loop Inv-loop μ-loop
 add-loop c = let i = c .loop .inv in omega (arith, i .0 .header .count-high)
@@ -36,7 +36,7 @@ byte-requires : tie.Need-byte-requires Inv-loop μ-loop
 byte-requires c κs = search needs
 
 returns : tie.Need-returns Inv-loop μ-loop
-returns c = let i = c .before .before .before .loop .inv in (i .3, i .4)
+returns c = let i = c .before .before .before .loop .inv in record { passed = c .before .before .before .before .before .pre .passed; many = i .2; within = i .3; below = i .4 }
 
 add-i : tie.Need-add-i Inv-loop μ-loop
 add-i c = search needs
@@ -51,7 +51,7 @@ loop-again c =
     (i .0, i .1, i .2, omega arith, λ k h. omega (arith, sorted _ (i .1) (i .0) k (l .i + 7) (omega arith) (omega arith)))
 
 returns-2 : tie.Need-returns-2 Inv-loop μ-loop
-returns-2 c = let i = c .before .loop .inv in (i .3, i .4)
+returns-2 c = let i = c .before .loop .inv in record { passed = c .before .before .before .pre .passed; many = i .2; within = i .3; below = i .4 }
 
 pub skip-spec : {M : Type 1} → statement M
 skip-spec =

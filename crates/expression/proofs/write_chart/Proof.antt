@@ -2,7 +2,6 @@
 use mathlib.Core.Path.{sym, _∙_}
 use borrow.Author.Needs.{needs}
 use Rattle.expression.proofs.Bodies.{refused}
-use Rattle.expression.proofs.Table.{passed→well-formed}
 use Rattle.expression.proofs.write_chart.Statement.{statement}
 use Rattle.expression.proofs.write_chart.Tie as tie
 
@@ -16,7 +15,7 @@ enum-told : tie.Need-enum-told
 enum-told c = search needs
 
 write-passed-requires : tie.Need-write-passed-requires
-write-passed-requires c κs = passed→well-formed _ (sym (c .before .before .before .check .ensures) ∙ (cc))
+write-passed-requires c κs = sym (c .before .before .before .check .ensures) ∙ (cc)
 
 returns : tie.Need-returns
 returns c = refused _ _ _ (sym (c .before .before .before .check .ensures) ∙ (cc))

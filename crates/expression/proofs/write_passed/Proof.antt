@@ -1,89 +1,58 @@
 -- `expression::write_passed` meets its contract. The number of transitions is the chart's, so that the bytes needed are the body's.
 use native.Mathlib.Omega.{arith}
+use Rattle.expression.proofs.Table.{passed→well-formed}
+use Rattle.expression.proofs.Bodies.{body-long, chart-few, short, done}
+use Rattle.expression.proofs.Listings.{keys-fit, chart-many, chart-room, body-is}
 use borrow.Author.Needs.{needs}
-use Rattle.expression.proofs.Bodies.{body-long, chart-few, few-keys, fit-ranks, chart-many, short, done}
 use Rattle.expression.proofs.write_passed.Statement.{statement}
 use Rattle.expression.proofs.write_passed.Tie as tie
 
 node-count-requires : tie.Need-node-count-requires
 node-count-requires c κs = search needs
 
-find-targets-requires : tie.Need-find-targets-requires
-find-targets-requires c κs = search needs
-
-collect-keys-requires : tie.Need-collect-keys-requires
-collect-keys-requires c κs = search needs
-
-rank-nodes-requires : tie.Need-rank-nodes-requires
-rank-nodes-requires c κs =
-    let w = c .before .before .before .before .before .before .before .before .before .pre in
-    let n = c .before .before .before .before .before .before .node-count .ensures in
-    (w, n, c .before .before .before .before .before .find-targets .ensures, c .before .before .collect-keys .ensures)
+number-steps-requires : tie.Need-number-steps-requires
+number-steps-requires c κs = search needs
 
 count-transitions-requires : tie.Need-count-transitions-requires
 count-transitions-requires c κs =
-    let w = c .before .before .before .before .before .before .before .before .before .before .before .pre in
-    let n = c .before .before .before .before .before .before .before .before .node-count .ensures in
-    let k = c .before .before .before .before .collect-keys .ensures in
-    let r = c .before .rank-nodes .ensures in
-    let f = few-keys _ w _ _ _ _ n k r in
-    (w, n, fit-ranks _ w _ _ _ _ n k r, omega arith)
+    let nc = c .before .before .before .before in
+    omega (arith, nc .node-count .ensures, passed→well-formed _ (nc .before .before .before .pre) .sized .few)
 
 mul-needed : tie.Need-mul-needed
 mul-needed c =
     let ct = c in
-    let rn = ct .before .before in
-    let ck = rn .before .before .before in
-    let nc = ck .before .before .before .before in
-    let s = nc .before .before .before in
-    let n = nc .node-count .ensures in
-    let k = ck .collect-keys .ensures in
-    let r = rn .rank-nodes .ensures in
-    let t = chart-many _ (s .pre) _ _ _ _ n k r _ (ct .count-transitions .ensures) in
-    let h = chart-few _ (s .pre) in
-    record { fits = omega arith }
+    let s = ct .before .before .before .before .before .before .before .before in
+    let n = ct .before .before .before .before .before .node-count .ensures in
+    let t = chart-many _ _ _ _ _ n (ct .before .before .number-steps .ensures) _ (ct .count-transitions .ensures) in
+    record { fits = omega (arith, t, chart-few _ (passed→well-formed _ (s .pre))) }
 
 add-needed : tie.Need-add-needed
 add-needed c =
     let ct = c in
-    let rn = ct .before .before in
-    let ck = rn .before .before .before in
-    let nc = ck .before .before .before .before in
-    let s = nc .before .before .before in
-    let n = nc .node-count .ensures in
-    let k = ck .collect-keys .ensures in
-    let r = rn .rank-nodes .ensures in
-    let t = chart-many _ (s .pre) _ _ _ _ n k r _ (ct .count-transitions .ensures) in
-    let h = chart-few _ (s .pre) in
-    record { fits = omega arith }
+    let s = ct .before .before .before .before .before .before .before .before in
+    let n = ct .before .before .before .before .before .node-count .ensures in
+    let t = chart-many _ _ _ _ _ n (ct .before .before .number-steps .ensures) _ (ct .count-transitions .ensures) in
+    record { fits = omega (arith, t, chart-few _ (passed→well-formed _ (s .pre))) }
 
 returns : tie.Need-returns
 returns c =
     let ct = c .before in
-    let rn = ct .before .before in
-    let ck = rn .before .before .before in
-    let nc = ck .before .before .before .before in
-    let s = nc .before .before .before in
-    let n = nc .node-count .ensures in
-    let k = ck .collect-keys .ensures in
-    let r = rn .rank-nodes .ensures in
-    let t = chart-many _ (s .pre) _ _ _ _ n k r _ (ct .count-transitions .ensures) in
+    let s = ct .before .before .before .before .before .before .before .before in
+    let n = ct .before .before .before .before .before .node-count .ensures in
+    let t = chart-many _ _ _ _ _ n (ct .before .before .number-steps .ensures) _ (ct .count-transitions .ensures) in
     let l = body-long (s .args .nodes .now) in
-    short _ (s .pre) (s .args .out .now) _ (omega arith) (c .if1 .taken)
+    short _ (passed→well-formed _ (s .pre)) (s .args .out .now) _ (omega arith) (c .if1 .taken)
 
 write-body-requires : tie.Need-write-body-requires
 write-body-requires c κs =
     let ct = c .before .before .before .before in
-    let rn = ct .before .before in
-    let ck = rn .before .before .before in
-    let nc = ck .before .before .before .before in
-    let s = nc .before .before .before in
-    let n = nc .node-count .ensures in
-    let k = ck .collect-keys .ensures in
-    let r = rn .rank-nodes .ensures in
-    let t = chart-many _ (s .pre) _ _ _ _ n k r _ (ct .count-transitions .ensures) in
+    let s = ct .before .before .before .before .before .before .before .before in
+    let n = ct .before .before .before .before .before .node-count .ensures in
+    let t = chart-many _ _ _ _ _ n (ct .before .before .number-steps .ensures) _ (ct .count-transitions .ensures) in
+    let w = passed→well-formed _ (s .pre) in
+    let N = ct .before .before .number-steps .ensures in
     let l = body-long (s .args .nodes .now) in
-    (s .pre, n, k, r, t, omega (arith, c .before .before .before .if1 .left))
+    (omega (arith, n, w .sized .few), omega (arith, t, chart-few _ w), keys-fit _ _ _ (N .coded), chart-room _ _ _ _ _ n N _ (omega (arith, l, t, c .before .before .before .if1 .left)))
 
 same-length : tie.Need-same-length
 same-length c = search needs
@@ -91,25 +60,20 @@ same-length c = search needs
 returns-2 : tie.Need-returns-2
 returns-2 c =
     let ct = c .before .before .before .before .before .before .before in
-    let rn = ct .before .before in
-    let ck = rn .before .before .before in
-    let nc = ck .before .before .before .before in
-    let s = nc .before .before .before in
-    let n = nc .node-count .ensures in
-    let k = ck .collect-keys .ensures in
-    let r = rn .rank-nodes .ensures in
-    let t = chart-many _ (s .pre) _ _ _ _ n k r _ (ct .count-transitions .ensures) in
+    let s = ct .before .before .before .before .before .before .before .before in
+    let n = ct .before .before .before .before .before .node-count .ensures in
+    let t = chart-many _ _ _ _ _ n (ct .before .before .number-steps .ensures) _ (ct .count-transitions .ensures) in
+    let N = ct .before .before .number-steps .ensures in
     let l = body-long (s .args .nodes .now) in
-    done _ (s .pre) (s .args .out .now) _ (omega arith) (c .before .before .before .before .before .before .if1 .left) _ (c .before .before .write-body .ensures)
+    done _ (passed→well-formed _ (s .pre)) (s .args .out .now) _ (omega arith) (c .before .before .before .before .before .before .if1 .left) _
+    (body-is _ _ _ _ _ n N _ _ _ t (c .before .before .write-body .ensures))
 
 pub write-passed-spec : {M : Type 1} → statement M
 write-passed-spec =
     tie.close
     (tie.spec
     node-count-requires
-    find-targets-requires
-    collect-keys-requires
-    rank-nodes-requires
+    number-steps-requires
     count-transitions-requires
     mul-needed
     add-needed

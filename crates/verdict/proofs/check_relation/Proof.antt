@@ -1,5 +1,6 @@
 use mathlib.Core.Path.{sym}
 use Rattle.expression.specs.Body.{bodyOf}
+use Rattle.bisimulation.proofs.Openings.{opening-refused, opening-passes}
 use Rattle.verdict.proofs.Stages.{nodes-few, nodes-vertices, nodes-start}
 use native.Mathlib.Omega.{arith}
 use borrow.Author.Needs.{needs}
@@ -21,17 +22,17 @@ enum-told-2 c = search needs
 returns : tie.Need-returns
 returns c =
     let n = c .before .before .before .before .before .before .args .nodes .now in
-    c .before .before .opening .ensures .refused _ (c .enum-told2 .given .1) (bodyOf n) (nodes-vertices n) (nodes-start n)
+    opening-refused (bodyOf n) _ _ _ _ (nodes-vertices n) (nodes-start n) (c .before .before .opening .ensures) (c .enum-told2 .given .1)
 
-add-check-pairs : tie.Need-add-check-pairs
-add-check-pairs c = search needs
+add-check-numbered-pairs : tie.Need-add-check-numbered-pairs
+add-check-numbered-pairs c = search needs
 
-check-pairs-requires : tie.Need-check-pairs-requires
-check-pairs-requires c κs =
+check-numbered-pairs-requires : tie.Need-check-numbered-pairs-requires
+check-numbered-pairs-requires c κs =
     let k = c .before .before .before .before .before .before in
     let n = k .args .nodes .now in
-    let (F, S) = c .before .before .opening .ensures .passed (c .enum-told .given .1) (bodyOf n) (nodes-vertices n) (nodes-start n) in
-    (k .pre .0, k .pre .1, sym (nodes-vertices n), nodes-few n (k .pre .0), F, S)
+    let (F, S) = opening-passes (bodyOf n) _ _ _ _ (nodes-vertices n) (nodes-start n) (c .before .before .opening .ensures) (c .enum-told .given .1) in
+    record { both = k .pre; is-number = sym (nodes-vertices n); fits = F; starts = S }
 
 returns-2 : tie.Need-returns-2
 returns-2 c = search needs
@@ -45,6 +46,6 @@ check-relation-spec =
     enum-told
     enum-told-2
     returns
-    add-check-pairs
-    check-pairs-requires
+    add-check-numbered-pairs
+    check-numbered-pairs-requires
     returns-2)

@@ -21,11 +21,11 @@ loop-holds c = (records-whole _ (c .before .pre .0), offset-none _, omega arith,
 add-at : tie.Need-add-at Inv-loop μ-loop
 add-at c = let i = c .before .loop .inv in omega (arith, i .0 .each (c .before .loop .i) (omega arith))
 
-pair-requires : tie.Need-pair-requires Inv-loop μ-loop
-pair-requires c κs = let i = c .before .loop .inv in omega (arith, i .0 .each (c .before .loop .i) (omega arith))
+read-u16-requires : tie.Need-read-u16-requires Inv-loop μ-loop
+read-u16-requires c κs = let i = c .before .loop .inv in omega (arith, i .0 .each (c .before .loop .i) (omega arith))
 
 add-at-2 : tie.Need-add-at-2 Inv-loop μ-loop
-add-at-2 c = let i = c .before .before .loop .inv in omega (arith, i .0 .each (c .before .before .loop .i) (omega arith), c .pair .ensures)
+add-at-2 c = let i = c .before .before .loop .inv in omega (arith, i .0 .each (c .before .before .loop .i) (omega arith), c .read-u16 .ensures)
 
 add-i : tie.Need-add-i Inv-loop μ-loop
 add-i c = search needs
@@ -34,7 +34,7 @@ loop-less : tie.Need-loop-less Inv-loop μ-loop
 loop-less c = search needs
 
 loop-again : tie.Need-loop-again Inv-loop μ-loop
-loop-again c = let l = c .before .before .loop in (l .inv .0, ap (λ (x : ℕ). l .at + 4 + x) (c .pair .ensures .0) ∙ offset-next _ _ _ (l .inv .1), omega arith, omega arith)
+loop-again c = let l = c .before .before .loop in (l .inv .0, ap (λ (x : ℕ). l .at + 4 + x) (c .read-u16 .ensures .0) ∙ offset-next _ _ _ (l .inv .1), omega arith, omega arith)
 
 returns : tie.Need-returns Inv-loop μ-loop
 returns c = c .before .loop .inv .1 ∙ ap (offsetOf _) (omega arith)
@@ -47,7 +47,7 @@ offset-spec =
     μ-loop
     loop-holds
     add-at
-    pair-requires
+    read-u16-requires
     add-at-2
     add-i
     loop-less

@@ -12,14 +12,14 @@ sub-if1 c = search needs
 returns : tie.Need-returns
 returns c = record-cut _ _ _ (omega arith)
 
-add-pair : tie.Need-add-pair
-add-pair c = search needs
+add-read-u16 : tie.Need-add-read-u16
+add-read-u16 c = search needs
 
-pair-requires : tie.Need-pair-requires
-pair-requires c κs = search needs
+read-u16-requires : tie.Need-read-u16-requires
+read-u16-requires c κs = search needs
 
 returns-2 : tie.Need-returns-2
-returns-2 c = record-other _ _ _ (omega arith) _ (c .before .pair .ensures .0) (c .if2 .taken)
+returns-2 c = record-other _ _ _ (omega arith) _ (c .before .read-u16 .ensures .0) (c .if2 .taken)
 
 sub-if3 : tie.Need-sub-if3
 sub-if3 c = search needs
@@ -27,14 +27,14 @@ sub-if3 c = search needs
 sub-if3-2 : tie.Need-sub-if3-2
 sub-if3-2 c = search needs
 
-pair-requires-2 : tie.Need-pair-requires-2
-pair-requires-2 c κs = search needs
+read-u16-requires-2 : tie.Need-read-u16-requires-2
+read-u16-requires-2 c κs = search needs
 
 returns-3 : tie.Need-returns-3
-returns-3 c = record-short _ _ _ (omega arith) (sym (c .before .before .if2 .left) ∙ c .before .before .before .pair .ensures .0) (omega (arith, c .before .pair2 .ensures))
+returns-3 c = record-short _ _ _ (omega arith) (sym (c .before .before .if2 .left) ∙ c .before .before .before .read-u16 .ensures .0) (omega (arith, c .before .read-u162 .ensures))
 
 returns-4 : tie.Need-returns-4
-returns-4 c = record-passes _ _ _ (omega arith) (sym (c .before .before .if2 .left) ∙ c .before .before .before .pair .ensures .0) (omega (arith, c .before .pair2 .ensures))
+returns-4 c = record-passes _ _ _ (omega arith) (sym (c .before .before .if2 .left) ∙ c .before .before .before .read-u16 .ensures .0) (omega (arith, c .before .read-u162 .ensures))
 
 pub record-spec : {M : Type 1} → statement M
 record-spec =
@@ -42,11 +42,11 @@ record-spec =
     (tie.spec
     sub-if1
     returns
-    add-pair
-    pair-requires
+    add-read-u16
+    read-u16-requires
     returns-2
     sub-if3
     sub-if3-2
-    pair-requires-2
+    read-u16-requires-2
     returns-3
     returns-4)

@@ -38,11 +38,11 @@ returns-2 c =
 add-at : tie.Need-add-at Inv-loop μ-loop
 add-at c = omega (arith, fits-at _ _ _ _ (c .before .before .«record» .ensures) (c .enum-told .given .1))
 
-pair-requires : tie.Need-pair-requires Inv-loop μ-loop
-pair-requires c κs = omega (arith, fits-at _ _ _ _ (c .before .before .«record» .ensures) (c .enum-told .given .1))
+read-u16-requires : tie.Need-read-u16-requires Inv-loop μ-loop
+read-u16-requires c κs = omega (arith, fits-at _ _ _ _ (c .before .before .«record» .ensures) (c .enum-told .given .1))
 
 add-at-2 : tie.Need-add-at-2 Inv-loop μ-loop
-add-at-2 c = omega (arith, fits-at _ _ _ _ (c .before .before .before .«record» .ensures) (c .before .enum-told .given .1), c .pair .ensures)
+add-at-2 c = omega (arith, fits-at _ _ _ _ (c .before .before .before .«record» .ensures) (c .before .enum-told .given .1), c .read-u16 .ensures)
 
 add-kind : tie.Need-add-kind Inv-loop μ-loop
 add-kind c = search needs
@@ -55,7 +55,7 @@ loop-again c =
     let l = c .before .before .before .before .before .loop in
     let d = c .before in
     let e = sym (d .enum-told .given .1) ∙ d .before .before .«record» .ensures in
-    (rw (c .pair .ensures .0) (sym (from-step _ _ _ (d .before .before .before .loop-test .taken) e) ∙ l .inv .0), omega (arith, fits-at _ _ _ _ (d .before .before .«record» .ensures) (d .enum-told .given .1), c .pair .ensures), omega arith, omega arith, omega arith)
+    (rw (c .read-u16 .ensures .0) (sym (from-step _ _ _ (d .before .before .before .loop-test .taken) e) ∙ l .inv .0), omega (arith, fits-at _ _ _ _ (d .before .before .«record» .ensures) (d .enum-told .given .1), c .read-u16 .ensures), omega arith, omega arith, omega arith)
 
 returns-3 : tie.Need-returns-3 Inv-loop μ-loop
 returns-3 c = sym (from-after _ _ _ (omega arith) (omega arith)) ∙ c .before .before .loop .inv .0
@@ -76,7 +76,7 @@ records-spec =
     enum-told-2
     returns-2
     add-at
-    pair-requires
+    read-u16-requires
     add-at-2
     add-kind
     loop-less

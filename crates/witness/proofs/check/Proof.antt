@@ -5,8 +5,9 @@ use Rattle.chart.proofs.Checks.{well-formed}
 use Rattle.witness.specs.Answers.{LoopsSaid}
 use Rattle.witness.proofs.Answers.{answer-31, answer-32, answer-passed, answer-refused}
 use Rattle.witness.proofs.Collecting.{collected-none}
-use Rattle.witness.proofs.Given.{levels-of, none-above}
+use Rattle.witness.proofs.Given.{levels-of, none-higher}
 use Rattle.witness.proofs.Labellings.{labelled-long}
+use Rattle.witness.proofs.Reaching.{cycle-first}
 use borrow.Author.Needs.{needs}
 use Rattle.witness.proofs.check.Statement.{statement}
 use Rattle.witness.proofs.check.Tie as tie
@@ -20,8 +21,8 @@ returns c = sym (labelled-long _ _ (λ e. c .if1 .taken (e ∙ sym (c .before .c
 byte-requires : tie.Need-byte-requires
 byte-requires c κs = let w = well-formed _ (c .before .before .before .before .pre) .header .long in omega arith
 
-rows-requires : tie.Need-rows-requires
-rows-requires c κs = search needs
+begins-requires : tie.Need-begins-requires
+begins-requires c κs = search needs
 
 slice-aggregate-collect : tie.Need-slice-aggregate-collect
 slice-aggregate-collect c = search needs
@@ -30,7 +31,7 @@ collect-requires : tie.Need-collect-requires
 collect-requires c κs =
     let r = c .before .before .before .before .before .before in
     let a = r .before .before .before .before .before .before in
-    (record { passed = a .pre; begins = r .rows .ensures; long = r .before .before .if1 .left ∙ r .before .before .before .count .ensures .0 }, r .before .byte .ensures .0, collected-none)
+    (record { passed = a .pre; of-begins = r .begins .ensures; long = r .before .before .if1 .left ∙ r .before .before .before .count .ensures .0 }, r .before .byte .ensures .0, collected-none)
 
 unreached-requires : tie.Need-unreached-requires
 unreached-requires c κs = search needs
@@ -49,8 +50,11 @@ returns-2 c =
     let U = u .unreached .ensures _ (tables .of-next) in
     sym (answer-31 _ _ w B long U (omega (arith, n, c .if2 .taken)))
 
-branch-cycle-requires : tie.Need-branch-cycle-requires
-branch-cycle-requires c κs = search needs
+cycle-requires : tie.Need-cycle-requires
+cycle-requires c κs =
+    let r = c .before .before .before .before .before .before .before .before .before .before .before .before .before in
+    let w = well-formed _ (r .before .before .before .before .before .before .pre) .header .vertices-high in
+    (search needs, omega (arith, w, r .before .byte .ensures .0), search needs)
 
 returns-3 : tie.Need-returns-3
 returns-3 c =
@@ -65,8 +69,8 @@ returns-3 c =
     let n = r .before .byte .ensures .0 in
     let tables = g .collect .ensures in
     let U = u .unreached .ensures _ (tables .of-next) in
-    let C = b .branch-cycle .ensures .1 _ (tables .of-branches) in
-    sym (answer-32 _ _ w B long U (omega (arith, n, b .before .before .before .if2 .left)) (C .0) (omega (arith, n, c .if3 .taken)))
+    let C = b .cycle .ensures in
+    sym (answer-32 _ _ w B long U (omega (arith, n, b .before .before .before .if2 .left)) (cycle-first w (tables .of-branches) (rw n at (C .first))) (omega (arith, n, c .if3 .taken)))
 
 top-label-requires : tie.Need-top-label-requires
 top-label-requires c κs = search needs
@@ -76,7 +80,7 @@ count-loops-requires c κs =
     let b = c .before .before .before in
     let g = b .before .before .before .before .before .before .before in
     let t = c .before .top-label .ensures in
-    (search needs, t .0, none-above (g .collect .ensures .of-entered) (t .1))
+    (search needs, t .0, none-higher (g .collect .ensures .of-entered) (t .1))
 
 slice-aggregate-join-later : tie.Need-slice-aggregate-join-later
 slice-aggregate-join-later c = search needs
@@ -86,7 +90,7 @@ join-later-requires c κs =
     let k = c .before .before .before in
     let g = k .before .before .before .before .before .before .before .before .before in
     let t = k .top-label .ensures in
-    (search needs, t .0, none-above (g .collect .ensures .of-entered) (t .1))
+    (search needs, t .0, none-higher (g .collect .ensures .of-entered) (t .1))
 
 loops-check-requires : tie.Need-loops-check-requires
 loops-check-requires c κs =
@@ -100,11 +104,12 @@ loops-check-requires c κs =
     let long = r .before .before .if1 .left ∙ r .before .before .before .count .ensures .0 in
     let n = r .before .byte .ensures .0 in
     let tables = g .collect .ensures in
-    let C = b .branch-cycle .ensures .1 _ (tables .of-branches) in (
-      record { passed = a .pre; begins = r .rows .ensures; long = long },
+    let C = b .cycle .ensures in (
+      record { passed = a .pre; of-begins = r .begins .ensures; long = long },
       record {
         of-branches = tables .of-branches;
-        of-after = C .1 (omega (arith, n, C .0 .within, c .before .before .before .before .before .before .before .before .before .before .before .before .if3 .left));
+        after-long = C .long;
+        of-after = rw n at (C .known (omega (arith, C .first .within, c .before .before .before .before .before .before .before .before .before .before .before .before .if3 .left)));
         of-entries = tables .of-entries;
         of-low = tables .of-low;
         of-levels = levels-of w B (tables .of-entered) (c .before .before .before .before .before .before .before .join-later .ensures);
@@ -130,8 +135,8 @@ returns-4 c =
     let n = r .before .byte .ensures .0 in
     let tables = g .collect .ensures in
     let U = u .unreached .ensures _ (tables .of-next) in
-    let C = b .branch-cycle .ensures .1 _ (tables .of-branches) in
-    answer-refused _ _ w B long U (omega (arith, n, b .before .before .before .if2 .left)) (C .0) (omega (arith, n, c .before .before .before .before .before .before .before .before .before .before .before .before .before .before .before .before .if3 .left)) (subst (LoopsSaid _) (c .before .place .given .1) (c .before .before .before .loops-check .ensures))
+    let C = b .cycle .ensures in
+    answer-refused _ _ w B long U (omega (arith, n, b .before .before .before .if2 .left)) (cycle-first w (tables .of-branches) (rw n at (C .first))) (omega (arith, n, c .before .before .before .before .before .before .before .before .before .before .before .before .before .before .before .before .if3 .left)) (subst (LoopsSaid _) (c .before .place .given .1) (c .before .before .before .loops-check .ensures))
 
 returns-5 : tie.Need-returns-5
 returns-5 c =
@@ -146,8 +151,8 @@ returns-5 c =
     let n = r .before .byte .ensures .0 in
     let tables = g .collect .ensures in
     let U = u .unreached .ensures _ (tables .of-next) in
-    let C = b .branch-cycle .ensures .1 _ (tables .of-branches) in
-    answer-passed _ _ w B long U (omega (arith, n, b .before .before .before .if2 .left)) (C .0) (omega (arith, n, c .before .before .before .before .before .before .before .before .before .before .before .before .before .before .before .if3 .left)) (subst (LoopsSaid _) (c .enum-told .given .1) (c .before .before .loops-check .ensures))
+    let C = b .cycle .ensures in
+    answer-passed _ _ w B long U (omega (arith, n, b .before .before .before .if2 .left)) (cycle-first w (tables .of-branches) (rw n at (C .first))) (omega (arith, n, c .before .before .before .before .before .before .before .before .before .before .before .before .before .before .before .if3 .left)) (subst (LoopsSaid _) (c .enum-told .given .1) (c .before .before .loops-check .ensures))
     (c .before .before .before .before .before .before .before .before .before .before .before .before .count-loops .ensures _ _ (a .pre) B (tables .of-entered))
 
 pub check-spec : {M : Type 1} → statement M
@@ -157,12 +162,12 @@ check-spec =
     count-requires
     returns
     byte-requires
-    rows-requires
+    begins-requires
     slice-aggregate-collect
     collect-requires
     unreached-requires
     returns-2
-    branch-cycle-requires
+    cycle-requires
     returns-3
     top-label-requires
     count-loops-requires

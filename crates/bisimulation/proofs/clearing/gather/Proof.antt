@@ -1,59 +1,38 @@
 use mathlib.Core.Path.{_≡_}
 use Prim.Native.Nat.{_-_, _≤_}
-use lib.ListN.{length}
-use Rattle.chart.specs.Bodies.{verticesOf, WellFormed}
-use Rattle.chart.specs.Leaving.{Rows}
-use Rattle.bisimulation.specs.Suspects.{Tabled, Gathered}
-use Rattle.bisimulation.proofs.ClearLaws.{gather-none, gather-more}
 use native.Mathlib.Omega.{arith}
 use borrow.Author.Needs.{needs}
+use lib.ListN.{length}
+use Rattle.chart.specs.Bodies.{verticesOf}
+use Rattle.chart.specs.Leaving.{Begins}
+use Rattle.bisimulation.specs.Suspects.{Tabled, Gathered}
+use Rattle.bisimulation.proofs.ClearLaws.{gather-none, gather-more}
 use Rattle.bisimulation.proofs.clearing.gather.Statement.{statement}
 use Rattle.bisimulation.proofs.clearing.gather.Tie as tie
 
 abbrev Inv-loop : tie.InvT-loop
-Inv-loop columns into acting users used body rows n table₀ v₀ table v = WellFormed body × (length columns ≡ 256) × Tabled into acting users × Rows body rows × (n ≡ verticesOf body) × (v ≤ n) × Gathered columns into acting users used body v table
+Inv-loop columns into acting users used body begins n table₀ v₀ table v = Tabled into acting body × (length users ≡ 128) × Begins body begins × (length columns ≡ 256) × (n ≡ verticesOf body) × (v ≤ n) × Gathered columns into acting users used body v table
 
 abbrev μ-loop : tie.MeasureT-loop
-μ-loop columns into acting users used body rows n table₀ v₀ table v = n - v
+μ-loop columns into acting users used body begins n table₀ v₀ table v = n - v
 
 byte-requires : tie.Need-byte-requires Inv-loop μ-loop
-byte-requires c κs = search needs
+byte-requires c κs = let l = c .before .pre .0 .formed .header .long in omega arith
 
 loop-holds : tie.Need-loop-holds Inv-loop μ-loop
 loop-holds c = let p = c .before .before .pre in (p .0, p .1, p .2, p .3, c .byte .ensures .0, omega arith, gather-none _ _ _ _ _ _)
 
-mul-low : tie.Need-mul-low Inv-loop μ-loop
-mul-low c = search needs
-
-mul-low-2 : tie.Need-mul-low-2 Inv-loop μ-loop
-mul-low-2 c = search needs
-
-element-copy-out-low : tie.Need-element-copy-out-low Inv-loop μ-loop
-element-copy-out-low c = search needs
-
-mul-high : tie.Need-mul-high Inv-loop μ-loop
-mul-high c = search needs
-
-add-high : tie.Need-add-high Inv-loop μ-loop
-add-high c = search needs
-
-mul-high-2 : tie.Need-mul-high-2 Inv-loop μ-loop
-mul-high-2 c = search needs
-
-element-copy-out-high : tie.Need-element-copy-out-high Inv-loop μ-loop
-element-copy-out-high c = search needs
+row-requires : tie.Need-row-requires Inv-loop μ-loop
+row-requires c κs = let i = c .before .before .loop .inv in let h = i .0 .formed .header .vertices-high in omega (arith, i .3, i .4, h, c .before .loop-test .taken)
 
 refusable-requires : tie.Need-refusable-requires Inv-loop μ-loop
-refusable-requires c κs = let i = c .before .before .before .loop .inv in (i .0, i .2, i .3, omega (arith, i .4, c .before .before .loop-test .taken, i .0 .header .vertices-high))
+refusable-requires c κs = let i = c .before .before .before .loop .inv in let h = i .0 .formed .header .vertices-high in (i .0, i .1, i .2, omega (arith, i .4, h, c .before .before .loop-test .taken))
 
-array-read-put-row : tie.Need-array-read-put-row Inv-loop μ-loop
-array-read-put-row c = search needs
-
-array-read-put-row-2 : tie.Need-array-read-put-row-2 Inv-loop μ-loop
-array-read-put-row-2 c = search needs
+slice-aggregate-put-row : tie.Need-slice-aggregate-put-row Inv-loop μ-loop
+slice-aggregate-put-row c = search needs
 
 put-row-requires : tie.Need-put-row-requires Inv-loop μ-loop
-put-row-requires c κs = let i = c .before .before .before .before .before .loop .inv in (i .6 .long, omega (arith, i .4, c .before .before .before .before .loop-test .taken, i .0 .header .vertices-high))
+put-row-requires c κs = let i = c .before .before .before .before .before .loop .inv in let h = i .0 .formed .header .vertices-high in omega (arith, i .4, h, i .6 .long, c .before .before .before .before .loop-test .taken)
 
 add-v : tie.Need-add-v Inv-loop μ-loop
 add-v c = search needs
@@ -63,8 +42,9 @@ loop-less c = search needs
 
 loop-again : tie.Need-loop-again Inv-loop μ-loop
 loop-again c =
-    let i = c .before .before .before .before .before .before .loop .inv in
-    (i .0, i .1, i .2, i .3, i .4, omega arith, gather-more (i .6) (c .before .before .refusable .ensures) (c .put-row .ensures))
+    let i = c .before .before .before .before .before .before .before .loop .inv in
+    let h = i .0 .formed .header .vertices-high in
+    (i .0, i .1, i .2, i .3, i .4, omega arith, gather-more (i .6) (omega (arith, i .4, h, c .before .before .before .before .before .before .loop-test .taken)) (c .before .before .before .before .row .ensures) (c .before .before .before .refusable .ensures) (c .before .put-row .ensures))
 
 returns : tie.Need-returns Inv-loop μ-loop
 returns c =
@@ -80,16 +60,9 @@ gather-spec =
     μ-loop
     byte-requires
     loop-holds
-    mul-low
-    mul-low-2
-    element-copy-out-low
-    mul-high
-    add-high
-    mul-high-2
-    element-copy-out-high
+    row-requires
     refusable-requires
-    array-read-put-row
-    array-read-put-row-2
+    slice-aggregate-put-row
     put-row-requires
     add-v
     loop-less

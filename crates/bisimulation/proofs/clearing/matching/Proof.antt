@@ -16,14 +16,8 @@ add-byte c = search needs
 byte-requires : tie.Need-byte-requires
 byte-requires c κs = search needs
 
-mul-both : tie.Need-mul-both
-mul-both c = search needs
-
-mul-both-2 : tie.Need-mul-both-2
-mul-both-2 c = search needs
-
-element-copy-out-both : tie.Need-element-copy-out-both
-element-copy-out-both c = let k = c .before .before in omega (arith, c .byte .ensures .0, k .pre .0 .each (k .args .i) (k .pre .1) .to-high, k .pre .0 .header .vertices-high)
+row-requires : tie.Need-row-requires
+row-requires c κs = let k = c .before .before .before in omega (arith, c .byte .ensures .0, k .pre .0 .formed .each (k .args .i) (k .pre .1) .to-high, k .pre .0 .formed .header .vertices-high, k .pre .0 .into-long)
 
 add-byte-2 : tie.Need-add-byte-2
 add-byte-2 c = search needs
@@ -31,19 +25,20 @@ add-byte-2 c = search needs
 byte-requires-2 : tie.Need-byte-requires-2
 byte-requires-2 c κs = search needs
 
-mul-both-3 : tie.Need-mul-both-3
-mul-both-3 c = search needs
+mul-bit-and : tie.Need-mul-bit-and
+mul-bit-and c = search needs
 
-element-copy-out-both-2 : tie.Need-element-copy-out-both-2
-element-copy-out-both-2 c = search needs
+element-copy-out-bit-and : tie.Need-element-copy-out-bit-and
+element-copy-out-bit-and c = search needs
 
-both-requires : tie.Need-both-requires
-both-requires c κs = search needs
+bit-and-requires : tie.Need-bit-and-requires
+bit-and-requires c κs = search needs
 
 returns : tie.Need-returns
 returns c =
-    let k = c .before .before .before .before .before .before .args in
-    match-read (k .into .now) (k .acting .now) (k .body .now) (k .i) (c .both .result) (c .before .before .before .before .byte .ensures .0) (c .before .before .byte2 .ensures .0) (c .both .ensures)
+    let d = c .before .before .before .before .before .before .before in
+    let k = d .args in
+    match-read (k .into .now) (k .acting .now) (k .body .now) (k .i) (c .bit-and .result) (λ j. d .pre .0 .low _ j (c .before .before .byte2 .ensures .1)) (c .before .before .before .before .byte .ensures .0) (c .before .before .byte2 .ensures .0) (c .before .before .before .row .ensures) (c .bit-and .ensures)
 
 pub matching-spec : {M : Type 1} → statement M
 matching-spec =
@@ -53,12 +48,10 @@ matching-spec =
     add-p
     add-byte
     byte-requires
-    mul-both
-    mul-both-2
-    element-copy-out-both
+    row-requires
     add-byte-2
     byte-requires-2
-    mul-both-3
-    element-copy-out-both-2
-    both-requires
+    mul-bit-and
+    element-copy-out-bit-and
+    bit-and-requires
     returns)

@@ -1,43 +1,38 @@
 use mathlib.Core.Path.{_≡_, refl}
 use mathlib.Core.List.{List}
 use Prim.Native.Nat.{ℕ, _-_, _≤_, _<_}
-use lib.ListN.{length, getD}
-use borrow.Author.Count.{below-more}
-use Rattle.theory.specs.Relations.{related, all-pass}
-use Rattle.bits.proofs.Sets.{none}
-use Rattle.bisimulation.specs.Answers.{Related, Passes}
-use Rattle.bisimulation.specs.Pairs.{Ready, Sought, Union}
-use Rattle.bisimulation.proofs.PairChecks.{rows-stop}
-use Rattle.bisimulation.proofs.ClearLaws.{both-zero}
-use Rattle.bisimulation.proofs.PairLaws.{union-clear}
 use native.Mathlib.Omega.{arith}
 use borrow.Author.Needs.{needs}
+use lib.ListN.{length}
+use borrow.Author.Count.{below-more}
+use Rattle.theory.specs.Relations.{related, all-pass}
+use Rattle.bits.specs.Sets.{Members}
+use Rattle.bisimulation.specs.Answers.{Related, Passes}
+use Rattle.bisimulation.specs.Pairs.{Ready, Suspect, Sought}
+use Rattle.bisimulation.proofs.PairChecks.{rows-stop}
+use Rattle.bisimulation.proofs.PairLaws.{suspects-clear}
 use Rattle.bisimulation.proofs.pairs.search.Statement.{statement}
 use Rattle.bisimulation.proofs.pairs.search.Tie as tie
 
 abbrev Inv-loop : tie.InvT-loop
-Inv-loop into acting words table body rows vertices lo hi u₀ u = Ready into acting words body rows × (length table ≡ 256) × (vertices ≤ 128) × Union table 128 lo hi × ((e relation : List ℕ) → Sought into acting words table body e relation → (a : ℕ) → a < u → (w : ℕ) → Related relation a w → Passes e body relation a w)
+Inv-loop into acting words table body begins vertices set u₀ u = Ready into acting words body begins × (length table ≡ 256) × (vertices ≤ 128) × Members (Suspect table 128) set × ((e relation : List ℕ) → Sought into acting words table body e relation → (a : ℕ) → a < u → (w : ℕ) → Related relation a w → Passes e body relation a w)
 
 abbrev μ-loop : tie.MeasureT-loop
-μ-loop into acting words table body rows vertices lo hi u₀ u = vertices - u
+μ-loop into acting words table body begins vertices set u₀ u = vertices - u
 
-union-requires : tie.Need-union-requires Inv-loop μ-loop
-union-requires c κs = c .before .pre .1
+suspects-requires : tie.Need-suspects-requires Inv-loop μ-loop
+suspects-requires c κs = c .before .pre .1
 
-array-read-lo : tie.Need-array-read-lo Inv-loop μ-loop
-array-read-lo c = search needs
-
-array-read-hi : tie.Need-array-read-hi Inv-loop μ-loop
-array-read-hi c = search needs
+is-empty-requires : tie.Need-is-empty-requires Inv-loop μ-loop
+is-empty-requires c κs = search needs
 
 returns : tie.Need-returns Inv-loop μ-loop
 returns c = λ e relation S q z.
-    let U = c .before .union in
-    let (f, g) = both-zero (getD (U .result) 0 0) (getD (U .result) 1 0) (c .if1 .taken) in
-    (related, all-pass z (λ u v r. union-clear (getD (U .result) 0 0) (getD (U .result) 1 0) S (U .ensures .1) u (λ h. none u (rw (f, g) at h)) v r), refl)
+    let f = c .before .is-empty .ensures .0 (c .if1 .taken) in
+    (related, all-pass z (λ u. suspects-clear S (c .before .before .suspects .ensures) u (f u)), refl)
 
 loop-holds : tie.Need-loop-holds Inv-loop μ-loop
-loop-holds c = let p = c .before .before .before .pre in (p .0, p .1, p .2, c .before .union .ensures .1, λ e relation S a h. absurd (omega arith))
+loop-holds c = let p = c .before .before .before .before .pre in (p .0, p .1, p .2, c .before .before .suspects .ensures, λ e relation S a h. absurd (omega arith))
 
 suspect-row-requires : tie.Need-suspect-row-requires Inv-loop μ-loop
 suspect-row-requires c κs = let i = c .before .loop .inv in (i .0, i .1, omega (arith, i .2, c .loop-test .taken), i .3)
@@ -71,9 +66,8 @@ search-spec =
     (tie.spec
     Inv-loop
     μ-loop
-    union-requires
-    array-read-lo
-    array-read-hi
+    suspects-requires
+    is-empty-requires
     returns
     loop-holds
     suspect-row-requires

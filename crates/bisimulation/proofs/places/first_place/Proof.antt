@@ -17,14 +17,14 @@ abbrev μ-loop : tie.MeasureT-loop
 loop-holds : tie.Need-loop-holds Inv-loop μ-loop
 loop-holds c = let p = c .pre in (p .0, p .1, omega arith, omega arith, λ e keys m W N. places-start W N)
 
-mul-count : tie.Need-mul-count Inv-loop μ-loop
-mul-count c = search needs
+mul-count-bits : tie.Need-mul-count-bits Inv-loop μ-loop
+mul-count-bits c = search needs
 
-element-copy-out-count : tie.Need-element-copy-out-count Inv-loop μ-loop
-element-copy-out-count c = search needs
+element-copy-out-count-bits : tie.Need-element-copy-out-count-bits Inv-loop μ-loop
+element-copy-out-count-bits c = search needs
 
-count-requires : tie.Need-count-requires Inv-loop μ-loop
-count-requires c κs = search needs
+count-bits-requires : tie.Need-count-bits-requires Inv-loop μ-loop
+count-bits-requires c κs = search needs
 
 add-at : tie.Need-add-at Inv-loop μ-loop
 add-at c = search needs
@@ -38,7 +38,7 @@ loop-less c = search needs
 loop-again : tie.Need-loop-again Inv-loop μ-loop
 loop-again c =
     let i = c .before .before .before .loop .inv in
-    let b = c .count .ensures in
+    let b = c .count-bits .ensures in
     (i .0, i .1, omega arith, omega arith, λ e keys m W N. place-vertex W N _ (i .4 e keys m W N) _ (b .0))
 
 returns : tie.Need-returns Inv-loop μ-loop
@@ -54,9 +54,9 @@ first-place-spec =
     Inv-loop
     μ-loop
     loop-holds
-    mul-count
-    element-copy-out-count
-    count-requires
+    mul-count-bits
+    element-copy-out-count-bits
+    count-bits-requires
     add-at
     add-x
     loop-less

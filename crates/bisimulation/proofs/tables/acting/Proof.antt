@@ -24,14 +24,14 @@ mul-a c = search needs
 element-copy-out-a : tie.Need-element-copy-out-a Inv-loop μ-loop
 element-copy-out-a c = search needs
 
-mul-with : tie.Need-mul-with Inv-loop μ-loop
-mul-with c = omega (arith, c .before .before .loop .inv .2 _ (c .before .loop-test .taken))
+mul-with-bit : tie.Need-mul-with-bit Inv-loop μ-loop
+mul-with-bit c = omega (arith, c .before .before .loop .inv .2 _ (c .before .loop-test .taken))
 
-array-read-with : tie.Need-array-read-with Inv-loop μ-loop
-array-read-with c = omega (arith, c .before .before .loop .inv .2 _ (c .before .loop-test .taken))
+array-read-with-bit : tie.Need-array-read-with-bit Inv-loop μ-loop
+array-read-with-bit c = omega (arith, c .before .before .loop .inv .2 _ (c .before .loop-test .taken))
 
-with-requires : tie.Need-with-requires Inv-loop μ-loop
-with-requires c κs = search needs
+with-bit-requires : tie.Need-with-bit-requires Inv-loop μ-loop
+with-bit-requires c κs = search needs
 
 mul-words : tie.Need-mul-words Inv-loop μ-loop
 mul-words c = omega (arith, c .before .before .before .loop .inv .2 _ (c .before .before .loop-test .taken))
@@ -48,7 +48,7 @@ loop-less c = search needs
 loop-again : tie.Need-loop-again Inv-loop μ-loop
 loop-again c =
     let i = c .before .before .before .loop .inv in
-    (i .0, i .1, i .2, omega arith, acting-more (i .4) refl (omega (arith, i .2 _ (c .before .before .loop-test .taken))) (c .with .ensures))
+    (i .0, i .1, i .2, omega arith, acting-more (i .4) refl (omega (arith, i .2 _ (c .before .before .loop-test .taken))) (c .with-bit .ensures))
 
 returns : tie.Need-returns Inv-loop μ-loop
 returns c = let e : c .before .loop .k ≡ c .before .before .args .m = omega arith in rw e at (c .before .loop .inv .4)
@@ -62,9 +62,9 @@ acting-spec =
     loop-holds
     mul-a
     element-copy-out-a
-    mul-with
-    array-read-with
-    with-requires
+    mul-with-bit
+    array-read-with-bit
+    with-bit-requires
     mul-words
     array-write-words
     add-k

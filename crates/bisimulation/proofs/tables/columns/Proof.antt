@@ -7,10 +7,10 @@ identity-requires : tie.Need-identity-requires
 identity-requires c κs = search needs
 
 spread-rows-requires : tie.Need-spread-rows-requires
-spread-rows-requires c κs = (c .before .before .before .pre .0, c .before .identity .ensures .long, c .before .before .before .pre .1)
+spread-rows-requires c κs = search needs
 
 returns : tie.Need-returns
-returns c = own-columns (c .before .before .before .before .pre .0) (c .before .before .before .before .pre .1) (c .before .before .identity .ensures) (c .spread-rows .ensures)
+returns c = let p = c .before .before .before .before .pre in own-columns _ _ (p .0) (c .before .before .identity .ensures) (c .spread-rows .ensures)
 
 pub columns-spec : {M : Type 1} → statement M
 columns-spec = tie.close (tie.spec identity-requires spread-rows-requires returns)

@@ -17,14 +17,14 @@ abbrev μ-loop : tie.MeasureT-loop
 loop-holds : tie.Need-loop-holds Inv-loop μ-loop
 loop-holds c = let p = c .pre in (p .0, p .1, omega arith, λ u k h. absurd (omega arith))
 
-mul-either : tie.Need-mul-either Inv-loop μ-loop
-mul-either c = search needs
+mul-bit-or : tie.Need-mul-bit-or Inv-loop μ-loop
+mul-bit-or c = search needs
 
-element-copy-out-either : tie.Need-element-copy-out-either Inv-loop μ-loop
-element-copy-out-either c = search needs
+element-copy-out-bit-or : tie.Need-element-copy-out-bit-or Inv-loop μ-loop
+element-copy-out-bit-or c = search needs
 
-either-requires : tie.Need-either-requires Inv-loop μ-loop
-either-requires c κs = search needs
+bit-or-requires : tie.Need-bit-or-requires Inv-loop μ-loop
+bit-or-requires c κs = search needs
 
 add-u : tie.Need-add-u Inv-loop μ-loop
 add-u c = search needs
@@ -35,7 +35,7 @@ loop-less c = search needs
 loop-again : tie.Need-loop-again Inv-loop μ-loop
 loop-again c =
     let i = c .before .before .before .loop in
-    (i .inv .0, i .inv .1, omega arith, used-more (c .before .before .before .before .args .words .now) (i .u) (i .all) (c .either .result) (i .inv .3) (c .either .ensures))
+    (i .inv .0, i .inv .1, omega arith, used-more (c .before .before .before .before .args .words .now) (i .u) (i .all) (c .bit-or .result) (i .inv .3) (c .bit-or .ensures))
 
 returns : tie.Need-returns Inv-loop μ-loop
 returns c = let i = c .before .loop .inv in λ u k h on. i .3 u k (omega arith) on
@@ -47,9 +47,9 @@ used-spec =
     Inv-loop
     μ-loop
     loop-holds
-    mul-either
-    element-copy-out-either
-    either-requires
+    mul-bit-or
+    element-copy-out-bit-or
+    bit-or-requires
     add-u
     loop-less
     loop-again

@@ -1,50 +1,57 @@
-use mathlib.Core.Path.{_≡_}
-use Prim.Native.Nat.{_+_, _-_}
+use borrow.Author.Needs.{needs}
+use mathlib.Core.Path.{_≡_, sym, _∙_}
+use mathlib.Core.Bool.{true≢false}
+use Prim.Native.Nat.{_-_, _<_}
 use native.Mathlib.Omega.{arith}
 use lib.ListN.{length}
+use borrow.Author.Tests.{not-true, not-false}
+use Rattle.bits.specs.Sets.{Difference, sizeOf}
+use Rattle.bits.proofs.Members.{size-few}
 use Rattle.chart.specs.Sets.{Known}
-use Rattle.chart.proofs.Searches.{Searching, searching, search-on, searched}
-use borrow.Author.Needs.{needs}
+use Rattle.chart.proofs.Searches.{Searching, searching, all-left, search-on, search-less, searched}
 use Rattle.chart.proofs.sets.closure_knowing.Statement.{statement}
 use Rattle.chart.proofs.sets.closure_knowing.Tie as tie
 
 abbrev Inv-loop : tie.InvT-loop
-Inv-loop next after from to stop lo hi s₀ s = (length next ≡ 256) × (length after ≡ 256) × Known next after from to × Searching next stop lo hi s
+Inv-loop next after from to stop seen₀ past₀ left₀ seen past left = (length next ≡ 256) × (length after ≡ 256) × Known next after from to × (stop < 128) × Searching next stop seen₀ seen past × Difference seen past left
 
 abbrev μ-loop : tie.MeasureT-loop
-μ-loop next after from to stop lo hi s₀ s = 36893488147419103232 - (s .past0 + s .past1)
+μ-loop next after from to stop seen₀ past₀ left₀ seen past left = 128 - sizeOf past
 
-of-words-requires : tie.Need-of-words-requires Inv-loop μ-loop
-of-words-requires c κs = search needs
+empty-requires : tie.Need-empty-requires Inv-loop μ-loop
+empty-requires c κs = search needs
 
 loop-holds : tie.Need-loop-holds Inv-loop μ-loop
-loop-holds c = let k = c .before in (k .pre .0, k .pre .1, k .pre .2, searching (k .args .next .now) (k .args .stop) (k .args .lo) (k .args .hi) (c .of-words .result) (c .of-words .ensures))
+loop-holds c = let k = c .before in (k .pre .0, k .pre .1, k .pre .2, k .pre .3, searching _ _ _ (c .empty .ensures), all-left _ (c .empty .ensures))
 
-unfinished-requires : tie.Need-unfinished-requires Inv-loop μ-loop
-unfinished-requires c κs = search needs
+is-empty-requires : tie.Need-is-empty-requires Inv-loop μ-loop
+is-empty-requires c κs = search needs
 
-take-requires : tie.Need-take-requires Inv-loop μ-loop
-take-requires c κs = c .before .unfinished .ensures .0 (c .if1 .taken)
-
-of-words-requires-2 : tie.Need-of-words-requires-2 Inv-loop μ-loop
-of-words-requires-2 c κs = search needs
+with-highest-requires : tie.Need-with-highest-requires Inv-loop μ-loop
+with-highest-requires c κs = λ e. true≢false (sym (c .before .is-empty .ensures .1 e) ∙ not-true _ (c .if1 .taken))
 
 visit-requires : tie.Need-visit-requires Inv-loop μ-loop
-visit-requires c κs = let w = c .of-words2 .ensures in let i = c .before .before .before .before .loop .inv in (i .0, i .1, i .2, c .before .take .ensures .within, omega (arith, w .was0, w .fits0), omega (arith, w .was1, w .fits1))
+visit-requires c κs = let i = c .before .before .before .before .loop .inv in (i .0, i .1, i .2, i .3, c .before .with-highest .ensures .0 .has .below)
+
+difference-requires : tie.Need-difference-requires Inv-loop μ-loop
+difference-requires c κs = search needs
 
 loop-less : tie.Need-loop-less Inv-loop μ-loop
 loop-less c =
-    let l = c .before .before .before .before .before .loop in
-    let r = search-on _ _ _ _ (l .s) (c .before .of-words2 .result) (c .visit .result) (l .inv .3) (c .before .before .take .ensures) (c .before .of-words2 .ensures) (c .visit .ensures) in
-    omega (arith, r .0 .fits0, r .0 .fits1, r .1)
+    let l = c .before .before .before .before .before .before .before .before .loop in
+    let m = c .before .before .before .before .before .with-highest .ensures in
+    let v = c .before .before .before .visit in
+    omega (arith, size-few (v .result .past), search-less (v .result) (l .inv .4) (l .inv .5) (m .0) (m .1) (v .ensures))
 
 loop-again : tie.Need-loop-again Inv-loop μ-loop
 loop-again c =
-    let l = c .before .before .before .before .before .loop in
-    (l .inv .0, l .inv .1, l .inv .2, search-on _ _ _ _ (l .s) (c .before .of-words2 .result) (c .visit .result) (l .inv .3) (c .before .before .take .ensures) (c .before .of-words2 .ensures) (c .visit .ensures) .0)
+    let l = c .before .before .before .before .before .before .before .before .loop in
+    let m = c .before .before .before .before .before .with-highest .ensures in
+    let v = c .before .before .before .visit in
+    (l .inv .0, l .inv .1, l .inv .2, l .inv .3, search-on (v .result) (l .inv .4) (l .inv .5) (m .0) (m .1) (v .ensures), c .difference .ensures)
 
 returns : tie.Need-returns Inv-loop μ-loop
-returns c = let k = c .before .before in searched _ _ _ _ (k .loop .s) (k .loop .inv .3) (c .before .unfinished .ensures .1 (c .if1 .left))
+returns c = let i = c .before .before .loop .inv in searched (i .4) (i .5) (c .before .is-empty .ensures .0 (not-false _ (c .if1 .left)))
 
 pub closure-knowing-spec : {M : Type 1} → statement M
 closure-knowing-spec =
@@ -52,12 +59,12 @@ closure-knowing-spec =
     (tie.spec
     Inv-loop
     μ-loop
-    of-words-requires
+    empty-requires
     loop-holds
-    unfinished-requires
-    take-requires
-    of-words-requires-2
+    is-empty-requires
+    with-highest-requires
     visit-requires
+    difference-requires
     loop-less
     loop-again
     returns)

@@ -1,4 +1,4 @@
-use mathlib.Core.Path.{refl, sym, ap}
+use mathlib.Core.Path.{sym, ap}
 use mathlib.Core.Bool.{Bool, cond}
 use Prim.Native.Nat.{_-_}
 use borrow.Author.Needs.{needs}
@@ -9,7 +9,7 @@ sub-t5 : tie.Need-sub-t5
 sub-t5 c = search needs
 
 returns : tie.Need-returns
-returns c = let k = c .before in record { long = refl; begin = sym (ap (λ (b : Bool). cond b (k .args .n - k .args .i) 0) (c .if1 .taken)); end = sym (ap (λ (b : Bool). cond b (k .args .n) (k .args .i)) (c .if1 .taken)) }
+returns c = let k = c .before in (sym (ap (λ (b : Bool). cond b (k .args .n - k .args .i) 0) (c .if1 .taken)), sym (ap (λ (b : Bool). cond b (k .args .n) (k .args .i)) (c .if1 .taken)))
 
 returns-2 : tie.Need-returns-2
 returns-2 c = search needs

@@ -1,7 +1,6 @@
--- `expression::body::write_body` meets its contract. The head, then the transitions; the sweep is the chart.
-use native.Mathlib.Omega.{arith}
+-- `expression::body::write_body` meets its contract. The head, then the transitions.
+use Rattle.expression.proofs.Stores.{body-stored}
 use borrow.Author.Needs.{needs}
-use Rattle.expression.proofs.Bodies.{body-long, chart-few, few-keys, fit-ranks, fit-keys, chart-room, body-stored}
 use Rattle.expression.proofs.body.write_body.Statement.{statement}
 use Rattle.expression.proofs.body.write_body.Tie as tie
 
@@ -18,36 +17,19 @@ cast-write-four-3 : tie.Need-cast-write-four-3
 cast-write-four-3 c = search needs
 
 cast-write-four-4 : tie.Need-cast-write-four-4
-cast-write-four-4 c =
-    let p = c .before .before .before .pre in
-    let h = chart-few _ (p .0) in
-    record { fits = omega arith }
+cast-write-four-4 c = search needs
 
 write-four-requires : tie.Need-write-four-requires
-write-four-requires c κs =
-    let p = c .before .before .before .pre in
-    let h = body-long (c .before .before .before .args .nodes .now) in
-    omega arith
+write-four-requires c κs = search needs
 
 write-transitions-requires : tie.Need-write-transitions-requires
-write-transitions-requires c κs =
-    let p = c .before .before .before .before .before .before .before .pre in
-    let f = few-keys _ (p .0) _ _ _ _ (p .1) (p .2) (p .3) in (
-      p .0,
-      p .1,
-      fit-ranks _ (p .0) _ _ _ _ (p .1) (p .2) (p .3),
-      omega arith,
-      fit-keys _ (p .0) _ _ _ _ (p .1) (p .2) (p .3) (λ i. omega (arith, c .before .before .before .before .before .shared-slice-known .given i)),
-      chart-room _ (p .0) _ _ _ _ (p .1) (p .2) (p .3) _ _ _ _ _ _ (c .before .before .before .write-four .ensures) (p .5),
-    )
+write-transitions-requires c κs = search needs
 
 same-length : tie.Need-same-length
 same-length c = search needs
 
 returns : tie.Need-returns
-returns c =
-    let p = c .before .before .before .before .before .before .before .before .before .before .pre in
-    body-stored _ (p .0) _ _ _ _ (p .1) (p .2) (p .3) _ _ _ _ (p .4) (c .before .before .before .before .before .before .write-four .ensures) (c .before .before .write-transitions .ensures)
+returns c = body-stored _ _ _ _ _ _ (c .before .before .before .before .before .before .write-four .ensures) (c .before .before .write-transitions .ensures)
 
 pub write-body-spec : {M : Type 1} → statement M
 write-body-spec =

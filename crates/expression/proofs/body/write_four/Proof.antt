@@ -2,7 +2,7 @@
 use native.Mathlib.Omega.{arith}
 use lib.ListN.{length-set}
 use borrow.Author.Needs.{needs}
-use Rattle.expression.proofs.Rows.{stores-four}
+use Rattle.expression.proofs.Stores.{stores-four}
 use Rattle.expression.proofs.body.write_four.Statement.{statement}
 use Rattle.expression.proofs.body.write_four.Tie as tie
 

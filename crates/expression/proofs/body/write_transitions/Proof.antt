@@ -1,39 +1,37 @@
 -- `expression::body::write_transitions` meets its contract. The invariant: with the bytes of the nodes from k on stored, the lent bytes are as they are to become.
-use Prim.Native.Nat.{_≤_, _-_}
-use mathlib.Core.Path.{_≡_}
+use Prim.Native.Nat.{ℕ, _≤_, _<_, _-_}
 use native.Mathlib.Omega.{arith}
-use Rattle.expression.specs.Sweep.{RanksFit, KeysFit, sweep}
+use lib.ListN.{getD}
+use Rattle.expression.specs.Listing.{listing, KeysFit}
 use Rattle.expression.specs.Body.{flat}
-use Rattle.expression.specs.Table.{count, WellFormed}
-use Rattle.expression.proofs.Rows.{Writing, writing-start, writing-room, writing-on, writing-end, writing-long, sweep-all, sweep-next, sweep-end}
+use Rattle.expression.proofs.Stores.{Writing, writing-start, writing-room, writing-on, writing-end, writing-long, listing-all, listing-next, listing-end}
 use Rattle.expression.proofs.body.write_transitions.Statement.{statement}
 use Rattle.expression.proofs.body.write_transitions.Tie as tie
 
 abbrev Inv-loop : tie.InvT-loop
-Inv-loop out₀ nodes n ranks keys m at₀ k₀ out at k =
-    WellFormed nodes
-    × (n ≡ count nodes)
-    × RanksFit nodes ranks
-    × (m ≤ 128)
-    × KeysFit keys m
-    × (k ≤ n)
-    × Writing out at (flat (sweep nodes ranks keys m k (n - k))) out₀ 4 (flat (sweep nodes ranks keys m 0 n))
+Inv-loop out₀ n keys words at₀ k₀ out at k =
+    (n < 128) × ((u : ℕ) → KeysFit keys (getD words u 0)) × (k ≤ n) × Writing out at (flat (listing keys words k (n - k))) out₀ 4 (flat (listing keys words 0 n))
 
 abbrev μ-loop : tie.MeasureT-loop
-μ-loop out₀ nodes n ranks keys m at₀ k₀ out at k = n - k
+μ-loop out₀ n keys words at₀ k₀ out at k = n - k
 
 loop-holds : tie.Need-loop-holds Inv-loop μ-loop
-loop-holds c =
-    let p = c .before .before .pre in
-    (p .0, p .1, p .2, p .3, p .4, omega arith, writing-start _ _ _ _ (sweep-all _ _ _ _ _) (p .5))
+loop-holds c = let p = c .before .pre in (p .0, p .1, omega arith, writing-start _ _ _ _ (listing-all _ _ _) (p .2))
 
-first-marks-requires : tie.Need-first-marks-requires Inv-loop μ-loop
-first-marks-requires c κs = let i = c .before .loop .inv in (i .0, omega arith, i .2)
+add-write-leaving : tie.Need-add-write-leaving Inv-loop μ-loop
+add-write-leaving c = let n = c .before .before .loop .inv .0 in record { fits = omega arith }
 
-write-rows-requires : tie.Need-write-rows-requires Inv-loop μ-loop
-write-rows-requires c κs =
-    let i = c .before .before .before .before .loop .inv in
-    (omega arith, i .3, i .4, writing-room _ _ _ _ _ _ (i .6) _ _ (sweep-next _ _ _ _ _ _ _ (c .before .before .before .loop-test .taken) (c .before .before .first-marks .ensures)))
+mul-write-leaving : tie.Need-mul-write-leaving Inv-loop μ-loop
+mul-write-leaving c = let n = c .before .before .loop .inv .0 in record { fits = omega arith }
+
+element-copy-out-write-leaving : tie.Need-element-copy-out-write-leaving Inv-loop μ-loop
+element-copy-out-write-leaving c = let n = c .before .before .loop .inv .0 in omega arith
+
+write-leaving-requires : tie.Need-write-leaving-requires Inv-loop μ-loop
+write-leaving-requires c κs =
+    let i = c .before .before .before .loop .inv in
+    let h = c .before .before .loop-test .taken in
+    (omega arith, i .1 _, writing-room _ _ _ _ _ _ (i .3) _ _ (listing-next _ _ _ _ h))
 
 add-k : tie.Need-add-k Inv-loop μ-loop
 add-k c = omega arith
@@ -43,18 +41,15 @@ loop-less c = omega arith
 
 loop-again : tie.Need-loop-again Inv-loop μ-loop
 loop-again c =
-    let marks = c .before .before .before .before .before in
-    let i = marks .before .before .loop .inv in
-    let split = sweep-next _ _ _ _ _ _ _ (marks .before .loop-test .taken) (marks .first-marks .ensures) in
-    (i .0, i .1, i .2, i .3, i .4, omega arith, writing-on _ _ _ _ _ _ (i .6) _ _ split _ _ (c .before .before .write-rows .ensures))
+    let i = c .before .before .before .before .before .before .loop .inv in
+    let h = c .before .before .before .before .before .loop-test .taken in
+    (i .0, i .1, omega arith, writing-on _ _ _ _ _ _ (i .3) _ _ (listing-next _ _ _ _ h) _ _ (c .before .before .write-leaving .ensures))
 
 same-length : tie.Need-same-length Inv-loop μ-loop
-same-length c = writing-long _ _ _ _ _ _ (c .before .loop .inv .6)
+same-length c = writing-long _ _ _ _ _ _ (c .before .loop .inv .3)
 
 returns : tie.Need-returns Inv-loop μ-loop
-returns c =
-    let i = c .before .loop .inv in
-    writing-end _ _ _ _ _ _ (i .6) (sweep-end _ _ _ _ _ _ (c .loop-test .left)) .is
+returns c = let i = c .before .loop .inv in writing-end _ _ _ _ _ _ (i .3) (listing-end _ _ _ _ (c .loop-test .left)) .is
 
 pub write-transitions-spec : {M : Type 1} → statement M
 write-transitions-spec =
@@ -63,8 +58,10 @@ write-transitions-spec =
     Inv-loop
     μ-loop
     loop-holds
-    first-marks-requires
-    write-rows-requires
+    add-write-leaving
+    mul-write-leaving
+    element-copy-out-write-leaving
+    write-leaving-requires
     add-k
     loop-less
     loop-again

@@ -4,13 +4,13 @@ use mathlib.Core.Path.{_≡_, sym, _∙_}
 use native.Mathlib.Omega.{arith}
 use borrow.Author.Tests.{not-true, not-false}
 use borrow.Author.Needs.{needs}
-use Rattle.expression.specs.Table.{count, lowest, nodeOk, malformed, Sized}
+use Rattle.expression.specs.Table.{count, lowestFailing, nodeOk, malformed, Sized}
 use Rattle.expression.proofs.Table.{lowest-step, lowest-stop, lowest-end, malformed-start}
 use Rattle.expression.proofs.nodes.lowest_malformed.Statement.{statement}
 use Rattle.expression.proofs.nodes.lowest_malformed.Tie as tie
 
 abbrev Inv-loop : tie.InvT-loop
-Inv-loop nodes n k₀ k = Sized nodes × (n ≡ count nodes) × (k ≤ n) × (lowest (nodeOk nodes) k (n - k) ≡ malformed nodes)
+Inv-loop nodes n k₀ k = Sized nodes × (n ≡ count nodes) × (k ≤ n) × (lowestFailing (nodeOk nodes) k (n - k) ≡ malformed nodes)
 
 abbrev μ-loop : tie.MeasureT-loop
 μ-loop nodes n k₀ k = n - k

@@ -4,7 +4,7 @@ use mathlib.Core.Path.{_≡_, sym, _∙_}
 use native.Mathlib.Nat.{sub-zero}
 use native.Mathlib.Omega.{arith}
 use borrow.Author.Needs.{needs}
-use Rattle.expression.specs.Table.{lowest}
+use Rattle.expression.specs.Table.{lowestFailing}
 use Rattle.expression.specs.Uses.{onceIn}
 use Rattle.expression.proofs.Uses.{once-yes, once-not}
 use Rattle.expression.proofs.Table.{lowest-step, lowest-stop, lowest-end}
@@ -12,7 +12,7 @@ use Rattle.expression.proofs.nodes.lowest_misused.Statement.{statement}
 use Rattle.expression.proofs.nodes.lowest_misused.Tie as tie
 
 abbrev Inv-loop : tie.InvT-loop
-Inv-loop uses m j₀ j = (m ≤ 128) × (j ≤ m) × (lowest (onceIn uses) j (m - j) ≡ lowest (onceIn uses) 0 m)
+Inv-loop uses m j₀ j = (m ≤ 128) × (j ≤ m) × (lowestFailing (onceIn uses) j (m - j) ≡ lowestFailing (onceIn uses) 0 m)
 
 abbrev μ-loop : tie.MeasureT-loop
 μ-loop uses m j₀ j = m - j

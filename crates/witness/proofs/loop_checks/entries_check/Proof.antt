@@ -1,26 +1,27 @@
+use borrow.Author.Needs.{needs}
 use mathlib.Core.Path.{refl, subst}
 use Prim.Native.Nat.{_-_}
 use native.Mathlib.Omega.{arith}
 use Rattle.bits.specs.Bits.{Bytes}
 use Rattle.bits.specs.Tables.{Table}
-use Rattle.bits.proofs.Tables.{gained}
+use Rattle.bits.proofs.Gains.{gained}
 use Rattle.chart.specs.Bodies.{WellFormed}
 use Rattle.chart.specs.Steps.{StepsOf}
 use Rattle.chart.proofs.Checks.{well-formed}
+use Rattle.witness.specs.Given.{EntryLevels, EntryTargets}
 use Rattle.witness.specs.Loops.{LoopSaid}
-use Rattle.witness.proofs.Given.{loop-next, loop-targets}
+use Rattle.witness.proofs.Given.{loop-next, loop-given}
 use Rattle.witness.proofs.Loops.{VertexTo, vertex-begin, vertex-more, vertex-end, vertex-stop}
-use Rattle.witness.proofs.Reaching.{known-after}
-use Rattle.witness.proofs.Seen.{Levels, Targets}
-use borrow.Author.Needs.{needs}
 use Rattle.witness.proofs.loop_checks.entries_check.Statement.{statement}
 use Rattle.witness.proofs.loop_checks.entries_check.Tie as tie
 
 abbrev Inv-loop : tie.InvT-loop
-Inv-loop body labels rows branches after high n v all0 all1 levels targets level₀ level = WellFormed body × Bytes labels × Table 2 (Levels (StepsOf body labels) v) levels × Table 256 (Targets (StepsOf body labels) v) targets × VertexTo (StepsOf body labels) v level
+Inv-loop body labels begins branches after high n v all levels targets level₀ level =
+    WellFormed body × Bytes labels × Table 2 (EntryLevels (StepsOf body labels) v) levels × Table 256 (EntryTargets (StepsOf body labels) v) targets
+    × VertexTo (StepsOf body labels) v level
 
 abbrev μ-loop : tie.MeasureT-loop
-μ-loop body labels rows branches after high n v all0 all1 levels targets level₀ level = 256 - level
+μ-loop body labels begins branches after high n v all levels targets level₀ level = 256 - level
 
 slice-aggregate-sort-entries : tie.Need-slice-aggregate-sort-entries Inv-loop μ-loop
 slice-aggregate-sort-entries c = search needs
@@ -36,35 +37,25 @@ next-level-requires c κs = (c .before .before .before .sort-entries .ensures .0
 
 loop-holds : tie.Need-loop-holds Inv-loop μ-loop
 loop-holds c =
-    let a = c .before .before .before .before .before .before .before .before .before .args in
-    let k : Bytes (a .labels .now) = λ k. omega (arith, c .before .before .before .before .before .before .before .shared-slice-known2 .given k) in
+    let k = c .before .before .before .before .before .before .before .before .before in
+    let a = k .args in
+    let bytes : Bytes (a .labels .now) = λ i. omega (arith, c .before .before .before .before .before .before .before .shared-slice-known2 .given i) in
     let g = c .before .before .before .before .sort-entries .ensures in
-    let t = gained {P = Levels (StepsOf (a .body .now) (a .labels .now)) (a .v)} 2 4 refl (g .0) in
-    (well-formed _ (c .before .before .before .before .before .before .before .before .before .pre .0 .passed), k, t, gained {P = Targets (StepsOf (a .body .now) (a .labels .now)) (a .v)} 256 512 refl (g .1), vertex-begin (loop-next t (c .next-level .ensures)))
+    let t = gained {P = EntryLevels (StepsOf (a .body .now) (a .labels .now)) (a .v)} 2 4 refl (g .0) in
+    let s = gained {P = EntryTargets (StepsOf (a .body .now) (a .labels .now)) (a .v)} 256 512 refl (g .1) in
+    (well-formed _ (k .pre .0 .passed), bytes, t, s, vertex-begin (loop-next t (c .next-level .ensures)))
 
-mul-lo : tie.Need-mul-lo Inv-loop μ-loop
-mul-lo c = search needs
+slice-aggregate-row : tie.Need-slice-aggregate-row Inv-loop μ-loop
+slice-aggregate-row c = search needs
 
-mul-lo-2 : tie.Need-mul-lo-2 Inv-loop μ-loop
-mul-lo-2 c = search needs
-
-array-read-lo : tie.Need-array-read-lo Inv-loop μ-loop
-array-read-lo c = let t = c .before .loop .inv .3 .long in omega arith
-
-mul-hi : tie.Need-mul-hi Inv-loop μ-loop
-mul-hi c = search needs
-
-add-hi : tie.Need-add-hi Inv-loop μ-loop
-add-hi c = search needs
-
-mul-hi-2 : tie.Need-mul-hi-2 Inv-loop μ-loop
-mul-hi-2 c = search needs
-
-array-read-hi : tie.Need-array-read-hi Inv-loop μ-loop
-array-read-hi c = let t = c .before .loop .inv .3 .long in omega arith
+row-requires : tie.Need-row-requires Inv-loop μ-loop
+row-requires c κs = let t = c .before .before .loop .inv .3 .long in omega arith
 
 loop-check-requires : tie.Need-loop-check-requires Inv-loop μ-loop
-loop-check-requires c κs = let p = c .before .before .before .before .before .before .before .before .before .before .before .pre in let i = c .before .loop .inv in (p .1 .2 .of-branches .long, p .1 .2 .of-after .long, p .1 .2 .of-levels .long, p .2, c .loop-test .taken, rw (p .4) (known-after (i .0) (p .1 .2 .of-branches) (p .1 .2 .of-after)))
+loop-check-requires c κs =
+    let p = c .before .before .before .before .before .before .before .before .before .before .before .before .before .pre in
+    let T = p .1 .2 in
+    (T .of-branches .long, T .after-long, T .of-levels .long, p .2, c .before .before .loop-test .taken, rw (p .4) (T .of-after))
 
 enum-told : tie.Need-enum-told Inv-loop μ-loop
 enum-told c = search needs
@@ -74,24 +65,26 @@ enum-told-2 c = search needs
 
 returns : tie.Need-returns Inv-loop μ-loop
 returns c =
-    let p = c .before .before .before .before .before .before .before .before .before .before .before .before .before .before .pre in
-    let i = c .before .before .before .before .loop .inv in
-    let l = c .before .before .before .loop-test .taken in
-    let said = c .before .before .loop-check .ensures _ _ _ _ (i .0) (p .1 .2) (i .4 .low) (loop-targets (i .3) (i .4 .low) l) (p .3) in
-    vertex-stop (c .enum-told2 .given .1) (i .4) l said
-
-next-level-requires-2 : tie.Need-next-level-requires-2 Inv-loop μ-loop
-next-level-requires-2 c κs = (c .before .before .before .before .before .loop .inv .2 .long, c .before .before .before .before .loop-test .taken)
-
-loop-less : tie.Need-loop-less Inv-loop μ-loop
-loop-less c = omega (arith, c .next-level2 .ensures .above)
-
-loop-again : tie.Need-loop-again Inv-loop μ-loop
-loop-again c =
     let p = c .before .before .before .before .before .before .before .before .before .before .before .before .before .before .before .before .pre in
     let i = c .before .before .before .before .before .before .loop .inv in
     let l = c .before .before .before .before .before .loop-test .taken in
-    let said = c .before .before .before .before .loop-check .ensures _ _ _ _ (i .0) (p .1 .2) (i .4 .low) (loop-targets (i .3) (i .4 .low) l) (p .3) in
+    let given = loop-given (i .0) (p .1 .2) (p .3) (i .3) (i .4 .low) l (c .before .before .before .row .ensures) in
+    let said = c .before .before .loop-check .ensures _ _ given in
+    vertex-stop (c .enum-told2 .given .1) (i .4) l said
+
+next-level-requires-2 : tie.Need-next-level-requires-2 Inv-loop μ-loop
+next-level-requires-2 c κs = (c .before .before .before .before .before .before .before .loop .inv .2 .long, c .before .before .before .before .before .before .loop-test .taken)
+
+loop-less : tie.Need-loop-less Inv-loop μ-loop
+loop-less c = omega (arith, c .next-level2 .ensures .from, c .before .before .before .before .before .before .before .loop-test .taken)
+
+loop-again : tie.Need-loop-again Inv-loop μ-loop
+loop-again c =
+    let p = c .before .before .before .before .before .before .before .before .before .before .before .before .before .before .before .before .before .before .pre in
+    let i = c .before .before .before .before .before .before .before .before .loop .inv in
+    let l = c .before .before .before .before .before .before .before .loop-test .taken in
+    let given = loop-given (i .0) (p .1 .2) (p .3) (i .3) (i .4 .low) l (c .before .before .before .before .before .row .ensures) in
+    let said = c .before .before .before .before .loop-check .ensures _ _ given in
     (i .0, i .1, i .2, i .3, vertex-more (i .4) (subst (LoopSaid _ _ _) (c .before .before .enum-told .given .1) said) (loop-next (i .2) (c .next-level2 .ensures)))
 
 returns-2 : tie.Need-returns-2 Inv-loop μ-loop
@@ -108,13 +101,8 @@ entries-check-spec =
     sort-entries-requires
     next-level-requires
     loop-holds
-    mul-lo
-    mul-lo-2
-    array-read-lo
-    mul-hi
-    add-hi
-    mul-hi-2
-    array-read-hi
+    slice-aggregate-row
+    row-requires
     loop-check-requires
     enum-told
     enum-told-2

@@ -6,69 +6,65 @@ use borrow.Author.Needs.{needs}
 use Rattle.witness.proofs.loop_checks.loop_check.Statement.{statement}
 use Rattle.witness.proofs.loop_checks.loop_check.Tie as tie
 
-first-back-requires : tie.Need-first-back-requires
-first-back-requires c κs = search needs
+returning-requires : tie.Need-returning-requires
+returning-requires c κs = search needs
+
+is-empty-requires : tie.Need-is-empty-requires
+is-empty-requires c κs = search needs
 
 returns : tie.Need-returns
-returns c = λ b labels e w W T g S H. loop-33 W T (c .before .before .pre .3) _ _ S (c .before .first-back .ensures) (c .if1 .taken)
+returns c = λ b labels g. loop-33 (g .formed) (g .tables) (c .before .before .before .pre .3) (g .members) (c .before .before .returning .ensures) (c .before .is-empty .ensures .0 (c .if1 .taken))
 
-below-requires : tie.Need-below-requires
-below-requires c κs = search needs
+below-level-requires : tie.Need-below-level-requires
+below-level-requires c κs = search needs
 
 returns-2 : tie.Need-returns-2
-returns-2 c = λ b labels e w W T g S H. let p = c .before .before .before .before .pre in passes-below W T (p .3) H (p .4) (le-refl _) g (c .before .below .ensures (c .if2 .taken)) (loop-back W T (p .3) _ _ S (c .before .before .before .first-back .ensures) (c .before .before .if1 .left))
+returns-2 c = λ b labels g.
+    let p = c .before .before .before .before .before .pre in
+    passes-below (g .formed) (g .tables) (p .3) (g .bodies) (p .4) (le-refl _) (g .above) (c .before .below-level .ensures (c .if2 .taken))
+    (loop-back (g .formed) (g .tables) (p .3) (g .members) (c .before .before .before .before .returning .ensures) (not-so (c .before .before .before .is-empty .ensures) (c .before .before .if1 .left)))
 
 closure-knowing-requires : tie.Need-closure-knowing-requires
 closure-knowing-requires c κs = search needs
 
-array-read-holds : tie.Need-array-read-holds
-array-read-holds c = search needs
-
-array-read-holds-2 : tie.Need-array-read-holds-2
-array-read-holds-2 c = search needs
-
-holds-requires : tie.Need-holds-requires
-holds-requires c κs = search needs
+contains-requires : tie.Need-contains-requires
+contains-requires c κs = search needs
 
 returns-3 : tie.Need-returns-3
-returns-3 c = λ b labels e w W T g S H.
-    let p = c .before .before .before .before .before .before .before .pre in
-    loop-34 W T (p .3) (p .4) (members-body W (T .of-branches) S (c .before .before .closure-knowing .ensures)) (loop-back W T (p .3) _ _ S (c .before .before .before .before .before .before .first-back .ensures) (c .before .before .before .before .before .if1 .left)) (c .before .holds .ensures .0 (c .if3 .taken))
-
-array-read-not-lower : tie.Need-array-read-not-lower
-array-read-not-lower c = search needs
-
-array-read-not-lower-2 : tie.Need-array-read-not-lower-2
-array-read-not-lower-2 c = search needs
+returns-3 c = λ b labels g.
+    let p = c .before .before .before .before .before .before .before .before .pre in
+    let inside = members-body (g .formed) (g .tables .of-branches) (g .members) (c .before .before .closure-knowing .ensures) in
+    loop-34 (g .formed) (g .tables) (p .3) (p .4) inside (loop-back (g .formed) (g .tables) (p .3) (g .members) (c .before .before .before .before .before .before .before .returning .ensures) (not-so (c .before .before .before .before .before .before .is-empty .ensures) (c .before .before .before .before .before .if1 .left))) (c .before .contains .ensures .0 (c .if3 .taken))
 
 not-lower-requires : tie.Need-not-lower-requires
 not-lower-requires c κs = search needs
 
 returns-4 : tie.Need-returns-4
-returns-4 c = λ b labels e w W T g S H.
-    let p = c .before .before .before .before .before .before .before .before .before .pre in
-    loop-35 W T (p .3) (p .4) (members-body W (T .of-branches) S (c .before .before .before .before .closure-knowing .ensures)) (loop-back W T (p .3) _ _ S (c .before .before .before .before .before .before .before .before .first-back .ensures) (c .before .before .before .before .before .before .before .if1 .left)) (not-so (c .before .before .before .holds .ensures) (c .before .before .if3 .left)) (c .before .not-lower .ensures) (c .if4 .taken)
+returns-4 c = λ b labels g.
+    let p = c .before .before .before .before .before .before .before .before .before .before .pre in
+    let inside = members-body (g .formed) (g .tables .of-branches) (g .members) (c .before .before .before .before .closure-knowing .ensures) in
+    let no-end = not-so (c .before .before .before .contains .ensures) (c .before .before .if3 .left) in
+    loop-35 (g .formed) (g .tables) (p .3) (p .4) inside (loop-back (g .formed) (g .tables) (p .3) (g .members) (c .before .before .before .before .before .before .before .before .before .returning .ensures) (not-so (c .before .before .before .before .before .before .before .before .is-empty .ensures) (c .before .before .before .before .before .before .before .if1 .left))) no-end (c .before .not-lower .ensures) (c .if4 .taken)
 
 returns-5 : tie.Need-returns-5
-returns-5 c = λ b labels e w W T g S H.
-    let p = c .before .before .before .before .before .before .before .before .before .pre in
-    loop-passes W T (p .3) (p .4) (members-body W (T .of-branches) S (c .before .before .before .before .closure-knowing .ensures)) (loop-back W T (p .3) _ _ S (c .before .before .before .before .before .before .before .before .first-back .ensures) (c .before .before .before .before .before .before .before .if1 .left)) (not-so (c .before .before .before .holds .ensures) (c .before .before .if3 .left)) (c .before .not-lower .ensures) (c .if4 .left)
+returns-5 c = λ b labels g.
+    let p = c .before .before .before .before .before .before .before .before .before .before .pre in
+    let inside = members-body (g .formed) (g .tables .of-branches) (g .members) (c .before .before .before .before .closure-knowing .ensures) in
+    let no-end = not-so (c .before .before .before .contains .ensures) (c .before .before .if3 .left) in
+    loop-passes (g .formed) (g .tables) (p .3) (p .4) inside (loop-back (g .formed) (g .tables) (p .3) (g .members) (c .before .before .before .before .before .before .before .before .before .returning .ensures) (not-so (c .before .before .before .before .before .before .before .before .is-empty .ensures) (c .before .before .before .before .before .before .before .if1 .left))) no-end (c .before .not-lower .ensures) (c .if4 .left)
 
 pub loop-check-spec : {M : Type 1} → statement M
 loop-check-spec =
     tie.close
     (tie.spec
-    first-back-requires
+    returning-requires
+    is-empty-requires
     returns
-    below-requires
+    below-level-requires
     returns-2
     closure-knowing-requires
-    array-read-holds
-    array-read-holds-2
-    holds-requires
+    contains-requires
     returns-3
-    array-read-not-lower
-    array-read-not-lower-2
     not-lower-requires
     returns-4
     returns-5)

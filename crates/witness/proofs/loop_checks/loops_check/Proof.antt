@@ -11,10 +11,10 @@ use Rattle.witness.proofs.loop_checks.loops_check.Statement.{statement}
 use Rattle.witness.proofs.loop_checks.loops_check.Tie as tie
 
 abbrev Inv-loop : tie.InvT-loop
-Inv-loop body labels rows branches after entries low high n v₀ v = WellFormed body × (n ≡ verticesOf body) × LoopsTo (StepsOf body labels) v
+Inv-loop body labels begins branches after entries low high n v₀ v = WellFormed body × (n ≡ verticesOf body) × LoopsTo (StepsOf body labels) v
 
 abbrev μ-loop : tie.MeasureT-loop
-μ-loop body labels rows branches after entries low high n v₀ v = n - v
+μ-loop body labels begins branches after entries low high n v₀ v = n - v
 
 byte-requires : tie.Need-byte-requires Inv-loop μ-loop
 byte-requires c κs = let w = well-formed _ (c .before .before .pre .0 .passed) .header .long in omega arith

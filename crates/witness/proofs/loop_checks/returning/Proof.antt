@@ -1,57 +1,19 @@
-use mathlib.Core.Path.{_≡_}
-use Prim.Native.Nat.{ℕ, _+_, _≤_}
-use native.Mathlib.Omega.{arith}
-use lib.ListN.{length}
 use Rattle.witness.specs.Loops.{Back}
-use Rattle.witness.proofs.Sifting.{Sifting, sift-none, sift-more, sift-all}
+use Rattle.witness.proofs.Sifting.{sifted}
 use borrow.Author.Needs.{needs}
 use Rattle.witness.proofs.loop_checks.returning.Statement.{statement}
 use Rattle.witness.proofs.loop_checks.returning.Tie as tie
 
-abbrev Inv-loop : tie.InvT-loop
-Inv-loop after v from word found₀ left₀ found left = (length after ≡ 256) × (from ≤ 64) × Sifting (λ (k : ℕ). Back after v (from + k)) word left found
+returning-bits-requires : tie.Need-returning-bits-requires
+returning-bits-requires c κs = search needs
 
-abbrev μ-loop : tie.MeasureT-loop
-μ-loop after v from word found₀ left₀ found left = left
+returning-bits-requires-2 : tie.Need-returning-bits-requires-2
+returning-bits-requires-2 c κs = search needs
 
-loop-holds : tie.Need-loop-holds Inv-loop μ-loop
-loop-holds c = (c .pre .0, c .pre .1, sift-none)
-
-lowest-requires : tie.Need-lowest-requires Inv-loop μ-loop
-lowest-requires c κs = search needs
-
-add-with-back : tie.Need-add-with-back Inv-loop μ-loop
-add-with-back c = omega (arith, c .lowest .ensures .within)
-
-with-back-requires : tie.Need-with-back-requires Inv-loop μ-loop
-with-back-requires c κs = let i = c .before .before .loop .inv in (c .lowest .ensures .within, i .0, omega (arith, c .lowest .ensures .within))
-
-rest-requires : tie.Need-rest-requires Inv-loop μ-loop
-rest-requires c κs = search needs
-
-loop-less : tie.Need-loop-less Inv-loop μ-loop
-loop-less c = let L = c .before .before .lowest .ensures in c .rest .ensures _ L .less (L .on)
-
-loop-again : tie.Need-loop-again Inv-loop μ-loop
-loop-again c =
-    let i = c .before .before .before .before .loop .inv in
-    let L = c .before .before .lowest .ensures in
-    (i .0, i .1, sift-more (i .2) (L .on) (c .before .with-back .ensures) (c .rest .ensures _ L))
-
-returns : tie.Need-returns Inv-loop μ-loop
-returns c = sift-all (c .before .loop .inv .2) (c .loop-test .left)
+returns : tie.Need-returns
+returns c =
+    let a = c .before .before .args in
+    sifted (Back (a .after .now) (a .v)) (a .set) _ (c .before .returning-bits .ensures) (c .returning-bits2 .ensures)
 
 pub returning-spec : {M : Type 1} → statement M
-returning-spec =
-    tie.close
-    (tie.spec
-    Inv-loop
-    μ-loop
-    loop-holds
-    lowest-requires
-    add-with-back
-    with-back-requires
-    rest-requires
-    loop-less
-    loop-again
-    returns)
+returning-spec = tie.close (tie.spec returning-bits-requires returning-bits-requires-2 returns)

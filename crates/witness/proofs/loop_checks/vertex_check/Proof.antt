@@ -1,7 +1,7 @@
 use mathlib.Core.Path.{refl}
 use native.Mathlib.Omega.{arith}
 use Rattle.chart.proofs.Checks.{well-formed}
-use Rattle.witness.proofs.Reaching.{whole-set}
+use Rattle.witness.proofs.Reaching.{has-bodies}
 use Rattle.witness.proofs.Loops.{vertex-none, vertex-passes}
 use borrow.Author.Needs.{needs}
 use Rattle.witness.proofs.loop_checks.vertex_check.Statement.{statement}
@@ -16,57 +16,34 @@ element-copy-out-level c = search needs
 returns : tie.Need-returns
 returns c = let p = c .before .before .before .before .pre in vertex-none (well-formed _ (p .0 .passed)) (p .1) (p .2) (λ k. omega (arith, c .before .before .shared-slice-known2 .given k)) (c .if1 .taken)
 
-mul-closure : tie.Need-mul-closure
-mul-closure c = search needs
-
-mul-closure-2 : tie.Need-mul-closure-2
-mul-closure-2 c = search needs
-
-element-copy-out-closure : tie.Need-element-copy-out-closure
-element-copy-out-closure c = search needs
-
-mul-closure-3 : tie.Need-mul-closure-3
-mul-closure-3 c = search needs
-
-add-closure : tie.Need-add-closure
-add-closure c = search needs
-
-mul-closure-4 : tie.Need-mul-closure-4
-mul-closure-4 c = search needs
-
-element-copy-out-closure-2 : tie.Need-element-copy-out-closure-2
-element-copy-out-closure-2 c = search needs
+row-requires : tie.Need-row-requires
+row-requires c κs = search needs
 
 closure-requires : tie.Need-closure-requires
 closure-requires c κs = search needs
 
-array-read-pass-at-once : tie.Need-array-read-pass-at-once
-array-read-pass-at-once c = search needs
-
-array-read-pass-at-once-2 : tie.Need-array-read-pass-at-once-2
-array-read-pass-at-once-2 c = search needs
+row-requires-2 : tie.Need-row-requires-2
+row-requires-2 c κs = search needs
 
 pass-at-once-requires : tie.Need-pass-at-once-requires
 pass-at-once-requires c κs = search needs
 
 returns-2 : tie.Need-returns-2
 returns-2 c =
-    let p = c .before .before .before .before .before .before .before .before .before .pre in
+    let p = c .before .before .before .before .before .before .before .before .before .before .before .pre in
     let w = well-formed _ (p .0 .passed) in
+    let all = has-bodies w (p .1) (p .2) (rw (c .before .before .before .before .before .row .ensures) at (c .before .before .before .before .closure .ensures)) in
     let (b, a) = c .before .pass-at-once .ensures (c .if2 .taken) in
-    vertex-passes w (p .1) (p .2) (whole-set w (p .1) (p .2) (c .before .before .closure .ensures)) refl (c .before .before .before .before .before .if1 .left) b a
+    vertex-passes w (p .1) (p .2) all refl (c .before .before .before .before .before .before .before .if1 .left) b (rw (c .before .before .row2 .ensures) at a)
 
 byte-requires : tie.Need-byte-requires
-byte-requires c κs = let p = c .before .before .before .before .before .before .before .before .before .pre in let w = well-formed _ (p .0 .passed) .header .long in omega arith
-
-array-read-entries-check : tie.Need-array-read-entries-check
-array-read-entries-check c = search needs
-
-array-read-entries-check-2 : tie.Need-array-read-entries-check-2
-array-read-entries-check-2 c = search needs
+byte-requires c κs = let p = c .before .before .before .before .before .before .before .before .before .before .before .pre in let w = well-formed _ (p .0 .passed) .header .long in omega arith
 
 entries-check-requires : tie.Need-entries-check-requires
-entries-check-requires c κs = let p = c .before .before .before .before .before .before .before .before .before .before .pre in (p .0, (_, _, p .1), p .2, whole-set (well-formed _ (p .0 .passed)) (p .1) (p .2) (c .before .before .before .closure .ensures), c .byte .ensures .0)
+entries-check-requires c κs =
+    let p = c .before .before .before .before .before .before .before .before .before .before .before .before .pre in
+    let all = has-bodies (well-formed _ (p .0 .passed)) (p .1) (p .2) (rw (c .before .before .before .before .before .before .row .ensures) at (c .before .before .before .before .before .closure .ensures)) in
+    (p .0, (_, _, p .1), p .2, all, c .byte .ensures .0)
 
 returns-3 : tie.Need-returns-3
 returns-3 c = search needs
@@ -78,20 +55,11 @@ vertex-check-spec =
     mul-level
     element-copy-out-level
     returns
-    mul-closure
-    mul-closure-2
-    element-copy-out-closure
-    mul-closure-3
-    add-closure
-    mul-closure-4
-    element-copy-out-closure-2
+    row-requires
     closure-requires
-    array-read-pass-at-once
-    array-read-pass-at-once-2
+    row-requires-2
     pass-at-once-requires
     returns-2
     byte-requires
-    array-read-entries-check
-    array-read-entries-check-2
     entries-check-requires
     returns-3)

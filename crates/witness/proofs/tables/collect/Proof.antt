@@ -1,3 +1,4 @@
+use borrow.Author.Needs.{needs}
 use mathlib.Core.Path.{_≡_, sym, _∙_}
 use Prim.Native.Nat.{_-_, _≤_, _<_}
 use native.Mathlib.Omega.{arith}
@@ -6,42 +7,39 @@ use Rattle.chart.specs.Steps.{StepsOf}
 use Rattle.chart.proofs.Checks.{well-formed}
 use Rattle.witness.specs.Given.{FirstOf, Collected}
 use Rattle.witness.proofs.Collecting.{collected-begin, collected-more, collected-all}
-use borrow.Author.Needs.{needs}
 use Rattle.witness.proofs.tables.collect.Statement.{statement}
 use Rattle.witness.proofs.tables.collect.Tie as tie
 
 abbrev Inv-loop : tie.InvT-loop
-Inv-loop body labels rows n next₀ branches₀ entries₀ low₀ entered₀ u₀ next branches entries low entered u = WellFormed body × (n ≡ verticesOf body) × (u ≤ n) × Collected (FirstOf u (StepsOf body labels)) next branches entries low entered
+Inv-loop body labels begins n next₀ branches₀ entries₀ low₀ entered₀ u₀ next branches entries low entered u =
+    WellFormed body × (n ≡ verticesOf body) × (u ≤ n) × Collected (FirstOf u (StepsOf body labels)) next branches entries low entered
 
 abbrev μ-loop : tie.MeasureT-loop
-μ-loop body labels rows n next₀ branches₀ entries₀ low₀ entered₀ u₀ next branches entries low entered u = n - u
+μ-loop body labels begins n next₀ branches₀ entries₀ low₀ entered₀ u₀ next branches entries low entered u = n - u
 
 loop-holds : tie.Need-loop-holds Inv-loop μ-loop
 loop-holds c = let p = c .before .before .before .pre in (well-formed _ (p .0 .passed), p .1, omega arith, collected-begin (p .2))
 
-row-of-requires : tie.Need-row-of-requires Inv-loop μ-loop
-row-of-requires c κs = let l = c .before .before .loop in let i = l .inv in let h : l .u < 128 = omega (arith, i .1, i .0 .header .vertices-high, c .before .loop-test .taken) in (c .before .before .before .before .before .before .pre .0, h, omega (arith, i .3 .of-entered .long))
+outgoing-of-requires : tie.Need-outgoing-of-requires Inv-loop μ-loop
+outgoing-of-requires c κs = let l = c .before .before .loop in let i = l .inv in let h : l .u < 128 = omega (arith, i .1, i .0 .header .vertices-high, c .before .loop-test .taken) in (c .before .before .before .before .before .before .pre .0, h, omega (arith, i .3 .of-entered .long))
 
-either-requires : tie.Need-either-requires Inv-loop μ-loop
-either-requires c κs = search needs
-
-either-requires-2 : tie.Need-either-requires-2 Inv-loop μ-loop
-either-requires-2 c κs = search needs
+union-requires : tie.Need-union-requires Inv-loop μ-loop
+union-requires c κs = search needs
 
 put-row-requires : tie.Need-put-row-requires Inv-loop μ-loop
-put-row-requires c κs = let l = c .before .before .before .before .before .before .before .before .loop in let i = l .inv in let h : l .u < 128 = omega (arith, i .1, i .0 .header .vertices-high, c .before .before .before .before .before .before .before .loop-test .taken) in (omega (arith, i .3 .of-next .long), h)
+put-row-requires c κs = let l = c .before .before .before .before .before .before .before .before .before .loop in let i = l .inv in let h : l .u < 128 = omega (arith, i .1, i .0 .header .vertices-high, c .before .before .before .before .before .before .before .before .loop-test .taken) in omega (arith, i .3 .of-next .long)
 
 put-row-requires-2 : tie.Need-put-row-requires-2 Inv-loop μ-loop
-put-row-requires-2 c κs = let l = c .before .before .before .before .before .before .before .before .before .before .loop in let i = l .inv in let h : l .u < 128 = omega (arith, i .1, i .0 .header .vertices-high, c .before .before .before .before .before .before .before .before .before .loop-test .taken) in (omega (arith, i .3 .of-branches .long), h)
+put-row-requires-2 c κs = let l = c .before .before .before .before .before .before .before .before .before .before .before .loop in let i = l .inv in let h : l .u < 128 = omega (arith, i .1, i .0 .header .vertices-high, c .before .before .before .before .before .before .before .before .before .before .loop-test .taken) in omega (arith, i .3 .of-branches .long)
 
 put-row-requires-3 : tie.Need-put-row-requires-3 Inv-loop μ-loop
-put-row-requires-3 c κs = let l = c .before .before .before .before .before .before .before .before .before .before .before .before .loop in let i = l .inv in let h : l .u < 128 = omega (arith, i .1, i .0 .header .vertices-high, c .before .before .before .before .before .before .before .before .before .before .before .loop-test .taken) in (omega (arith, i .3 .of-entries .long), h)
+put-row-requires-3 c κs = let l = c .before .before .before .before .before .before .before .before .before .before .before .before .before .loop in let i = l .inv in let h : l .u < 128 = omega (arith, i .1, i .0 .header .vertices-high, c .before .before .before .before .before .before .before .before .before .before .before .before .loop-test .taken) in omega (arith, i .3 .of-entries .long)
 
 mul-low : tie.Need-mul-low Inv-loop μ-loop
-mul-low c = let l = c .before .before .before .before .before .before .before .before .before .before .before .before .before .loop in let i = l .inv in let h : l .u < 128 = omega (arith, i .1, i .0 .header .vertices-high, c .before .before .before .before .before .before .before .before .before .before .before .before .loop-test .taken) in omega arith
+mul-low c = let l = c .before .before .before .before .before .before .before .before .before .before .before .before .before .before .loop in let i = l .inv in let h : l .u < 128 = omega (arith, i .1, i .0 .header .vertices-high, c .before .before .before .before .before .before .before .before .before .before .before .before .before .loop-test .taken) in omega arith
 
 element-write-low : tie.Need-element-write-low Inv-loop μ-loop
-element-write-low c = let l = c .before .before .before .before .before .before .before .before .before .before .before .before .before .loop in let i = l .inv in let h : l .u < 128 = omega (arith, i .1, i .0 .header .vertices-high, c .before .before .before .before .before .before .before .before .before .before .before .before .loop-test .taken) in h
+element-write-low c = let l = c .before .before .before .before .before .before .before .before .before .before .before .before .before .before .loop in let i = l .inv in let h : l .u < 128 = omega (arith, i .1, i .0 .header .vertices-high, c .before .before .before .before .before .before .before .before .before .before .before .before .before .loop-test .taken) in h
 
 add-u : tie.Need-add-u Inv-loop μ-loop
 add-u c = search needs
@@ -51,12 +49,13 @@ loop-less c = search needs
 
 loop-again : tie.Need-loop-again Inv-loop μ-loop
 loop-again c =
-    let l = c .before .before .before .before .before .before .before .before .before .before .before .before .before .loop in
+    let l = c .before .before .before .before .before .before .before .before .before .before .before .before .before .before .loop in
     let i = l .inv in
-    let h : l .u < 128 = omega (arith, i .1, i .0 .header .vertices-high, c .before .before .before .before .before .before .before .before .before .before .before .before .loop-test .taken) in
-    let r = c .before .before .before .before .before .before .before .before .before .before .row-of .ensures in
-    let next = c .before .before .before .before .put-row .ensures in
-    (i .0, i .1, omega arith, collected-more h (r .0) (i .3) (r .1) (c .before .before .before .before .before .before .either .ensures) (c .before .before .before .before .before .either2 .ensures) next (c .before .before .put-row2 .ensures) (c .put-row3 .ensures))
+    let h : l .u < 128 = omega (arith, i .1, i .0 .header .vertices-high, c .before .before .before .before .before .before .before .before .before .before .before .before .before .loop-test .taken) in
+    let r = c .before .before .before .before .before .before .before .before .before .before .before .outgoing-of .ensures in
+    let U = c .before .before .before .before .before .union .ensures in
+    let N = c .before .before .before .before .put-row .ensures in
+    (i .0, i .1, omega arith, collected-more h (r .0) (i .3) (r .1) U N (c .before .before .put-row2 .ensures) (c .put-row3 .ensures))
 
 same-length : tie.Need-same-length Inv-loop μ-loop
 same-length c = c .before .loop .inv .3 .of-entered .long ∙ sym (c .before .before .before .before .before .pre .2 .of-entered .long)
@@ -71,9 +70,8 @@ collect-spec =
     Inv-loop
     μ-loop
     loop-holds
-    row-of-requires
-    either-requires
-    either-requires-2
+    outgoing-of-requires
+    union-requires
     put-row-requires
     put-row-requires-2
     put-row-requires-3

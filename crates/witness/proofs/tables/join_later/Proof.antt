@@ -3,9 +3,7 @@ use Prim.Native.Nat.{_≤_, _-_}
 use native.Mathlib.Omega.{arith}
 use lib.ListN.{length}
 use Rattle.bits.specs.Tables.{Gains}
-use Rattle.bits.proofs.Tables.{gains-join}
-use Rattle.witness.proofs.Sets.{Later, later-none, later-more, later-all}
-use borrow.Author.Needs.{needs}
+use Rattle.witness.proofs.Later.{Later, later-none, later-more, later-all}
 use Rattle.witness.proofs.tables.join_later.Statement.{statement}
 use Rattle.witness.proofs.tables.join_later.Tie as tie
 
@@ -18,41 +16,24 @@ abbrev μ-loop : tie.MeasureT-loop
 loop-holds : tie.Need-loop-holds Inv-loop μ-loop
 loop-holds c = let p = c .before .pre in (p .0, omega (arith, p .1), later-none (c .before .args .top) (p .2))
 
-mul-lo : tie.Need-mul-lo Inv-loop μ-loop
-mul-lo c = search needs
-
-mul-lo-2 : tie.Need-mul-lo-2 Inv-loop μ-loop
-mul-lo-2 c = search needs
-
-slice-read-lo : tie.Need-slice-read-lo Inv-loop μ-loop
-slice-read-lo c = let i = c .before .before .loop .inv in omega (arith, i .0, i .2 .long)
-
-mul-hi : tie.Need-mul-hi Inv-loop μ-loop
-mul-hi c = search needs
-
-add-hi : tie.Need-add-hi Inv-loop μ-loop
-add-hi c = search needs
-
-mul-hi-2 : tie.Need-mul-hi-2 Inv-loop μ-loop
-mul-hi-2 c = search needs
-
-slice-read-hi : tie.Need-slice-read-hi Inv-loop μ-loop
-slice-read-hi c = let i = c .before .before .before .loop .inv in omega (arith, i .0, i .2 .long)
+row-requires : tie.Need-row-requires Inv-loop μ-loop
+row-requires c κs = let i = c .before .before .loop .inv in omega (arith, i .0, i .1, i .2 .long)
 
 sub-l : tie.Need-sub-l Inv-loop μ-loop
-sub-l c = search needs
+sub-l c = omega arith
 
 join-requires : tie.Need-join-requires Inv-loop μ-loop
-join-requires c κs = let i = c .before .before .before .before .loop .inv in omega (arith, i .0, i .2 .long)
+join-requires c κs = let i = c .before .before .before .before .loop .inv in omega (arith, i .0, i .1, i .2 .long)
 
 loop-less : tie.Need-loop-less Inv-loop μ-loop
-loop-less c = search needs
+loop-less c = omega arith
 
 loop-again : tie.Need-loop-again Inv-loop μ-loop
 loop-again c =
     let l = c .before .before .before .before .before .before .before .loop in
     let i = l .inv in
-    (i .0, omega arith, later-more (l .l - 1) (l .l) (omega arith) (omega arith) (i .0) (i .2) (gains-join (c .before .before .join .ensures)))
+    let joined = rw (c .before .before .before .before .row .ensures) at (c .before .before .join .ensures) in
+    (i .0, omega arith, later-more (l .l - 1) (l .l) (omega arith) (omega arith) (i .0) (i .2) joined)
 
 same-length : tie.Need-same-length Inv-loop μ-loop
 same-length c = c .before .loop .inv .2 .long
@@ -67,13 +48,7 @@ join-later-spec =
     Inv-loop
     μ-loop
     loop-holds
-    mul-lo
-    mul-lo-2
-    slice-read-lo
-    mul-hi
-    add-hi
-    mul-hi-2
-    slice-read-hi
+    row-requires
     sub-l
     join-requires
     loop-less

@@ -1,8 +1,8 @@
 use mathlib.Core.Path.{sym, subst}
 use Prim.Native.Nat.{ℕ}
 use native.Mathlib.Omega.{arith}
-use Rattle.bits.proofs.Tables.{gains-none, gains-insert}
-use Rattle.witness.specs.Given.{RowWith}
+use Rattle.bits.proofs.Gains.{gains-none, gains-insert}
+use Rattle.witness.specs.Given.{OutgoingWith}
 use borrow.Author.Needs.{needs}
 use Rattle.witness.proofs.tables.with_step.Statement.{statement}
 use Rattle.witness.proofs.tables.with_step.Tie as tie
@@ -11,7 +11,7 @@ with-branch-requires : tie.Need-with-branch-requires
 with-branch-requires c κs = search needs
 
 returns : tie.Need-returns
-returns c = let a = c .before .before .before .args in (subst (λ (l : ℕ). RowWith (a .row) l (a .w) (c .with-branch .result)) (sym (c .before .if1 .taken)) (c .with-branch .ensures), gains-none (λ x y (z, p, q). omega (arith, z, c .before .if1 .taken)))
+returns c = let a = c .before .before .before .args in (subst (λ (l : ℕ). OutgoingWith (a .out) l (a .w) (c .with-branch .result)) (sym (c .before .if1 .taken)) (c .with-branch .ensures), gains-none (λ x y (z, p, q). omega (arith, z, c .before .if1 .taken)))
 
 insert-requires : tie.Need-insert-requires
 insert-requires c κs = search needs

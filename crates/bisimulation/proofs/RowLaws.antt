@@ -1,0 +1,45 @@
+-- The rows of a relation as parts of its bytes: a bit stands only in a row that is there, and in one of its 128 columns.
+use mathlib.Core.Path.{_≡_, sym, _∙_, subst}
+use mathlib.Core.Logic.{_↔_, by-cases}
+use mathlib.Core.Bool.{Bool, true, false, false≢true}
+use mathlib.Core.List.{List}
+use Prim.Native.Nat.{ℕ, _+_, _-_, _*_, _/_, _%_, _≤_, _<_}
+use native.Mathlib.Decide.{decLt}
+use native.Mathlib.Omega.{arith}
+use lib.ListN.{length, getD, drop, length-take, length-drop}
+use lib.Seq.{getD-take, getD-drop}
+use borrow.Author.Tests.{eq-eqb, eqb-true}
+use Rattle.bits.specs.declared.sets.Set.{Set}
+use Rattle.bits.specs.Words.{On}
+use Rattle.bits.specs.Sets.{Has, Members}
+use Rattle.bits.proofs.Powers.{has-past}
+use Rattle.bisimulation.specs.Relations.{rowBytes, relatedTest}
+use Rattle.bisimulation.specs.Answers.{Related}
+
+-- a bit stands in a byte of its row
+bit-in : (relation : List ℕ) (u v : ℕ) → Related relation u v → v / 8 < length (rowBytes relation u)
+unfolding relatedTest
+bit-in relation u v e = by-cases (decLt (v / 8) (length (rowBytes relation u))) (λ h. h) (λ h. absurd (false≢true (sym (has-past (rowBytes relation u) v (omega arith)) ∙ e)))
+
+row-length : (relation : List ℕ) (u : ℕ) → (length (rowBytes relation u) ≤ 16) × (length (rowBytes relation u) ≤ length relation - 16 * u)
+row-length relation u = simp (length-take, length-drop) (omega arith, omega arith)
+
+pub related-column : (relation : List ℕ) (u v : ℕ) → Related relation u v → v < 128
+related-column relation u v e = omega (arith, bit-in relation u v e, row-length relation u .0)
+
+pub related-row : (relation : List ℕ) (rows u v : ℕ) → length relation ≡ 16 * rows → Related relation u v → u < rows
+related-row relation rows u v w e = omega (arith, bit-in relation u v e, row-length relation u .1)
+
+-- a pair is related where a bit of a byte of its row is set
+pub related-on : (relation : List ℕ) (u v : ℕ) → v < 128 → Related relation u v ↔ On (getD relation (16 * u + v / 8) 0) (v % 8)
+unfolding relatedTest
+related-on relation u v h =
+    let e : getD (rowBytes relation u) (v / 8) 0 ≡ getD relation (16 * u + v / 8) 0 = getD-take 16 (drop (16 * u) relation) (v / 8) 0 (omega arith) ∙ getD-drop (16 * u) relation (v / 8) 0 in
+    ((λ r. subst (λ (x : ℕ). On x (v % 8)) e (eqb-true _ _ r)), (λ on. eq-eqb _ _ (subst (λ (x : ℕ). On x (v % 8)) (sym e) on)))
+
+-- the set that is read has the vertices that u is related to
+pub row-members : (relation : List ℕ) (u : ℕ) {r : Set} → Members (λ (w : ℕ). On (getD relation (16 * u + w / 8) 0) (w % 8)) r → Members (Related relation u) r
+row-members relation u M = record { exactly = λ w l. let R = related-on relation u w l in ((λ h. R .1 (M .exactly w l .0 h)), (λ r. M .exactly w l .1 (R .0 r))) }
+
+pub has-related : (relation : List ℕ) (u : ℕ) {r : Set} → Members (Related relation u) r → (w : ℕ) → Has r w ↔ Related relation u w
+has-related relation u M w = ((λ h. M .exactly w (h .below) .0 h), (λ r. M .exactly w (related-column relation u w r) .1 r))

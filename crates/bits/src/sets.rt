@@ -1,0 +1,169 @@
+// Sets of the numbers below 128.
+use super::bit_and;
+use super::bit_and_not;
+use super::bit_or;
+use super::count_bits;
+use super::highest_bit;
+use super::is_set;
+use super::lowest_bit;
+use super::read_u64;
+use super::with_bit;
+ghost use mathlib.Core.Path.{_≡_};
+ghost use mathlib.Core.Bool.{true};
+ghost use mathlib.Core.Logic.{_≢_, _⊎_, _↔_};
+ghost use Prim.Native.Nat.{ℕ, _+_, _/_, _%_, _≤_, _<_};
+ghost use lib.ListN.{length, getD};
+ghost use Rattle.bits.specs.First.{First};
+ghost use Rattle.bits.specs.Words.{On};
+ghost use Rattle.bits.specs.Sets.{Has, emptySet, Empty, Members, Union, Intersection, Difference, Last, sizeOf, halfOf};
+
+// A set of the numbers below 128: bit k of `lo` for k, bit k of `hi` for 64 + k.
+pub struct Set {
+    pub lo: u64,
+    pub hi: u64,
+}
+
+// A set, and a number that has come into it.
+pub struct Marked {
+    pub set: Set,
+    pub at: usize,
+}
+
+impl Set {
+    pub fn empty() -> Set
+        ensures { λ r. ⌜ r ≡ emptySet ⌝ }
+    {
+        Set { lo: 0, hi: 0 }
+    }
+
+    pub fn union(self, other: Set) -> Set
+        ensures { λ r. ⌜ Union self other r ⌝ }
+    {
+        Set {
+            lo: bit_or(self.lo, other.lo),
+            hi: bit_or(self.hi, other.hi),
+        }
+    }
+
+    pub fn intersection(self, other: Set) -> Set
+        ensures { λ r. ⌜ Intersection self other r ⌝ }
+    {
+        Set {
+            lo: bit_and(self.lo, other.lo),
+            hi: bit_and(self.hi, other.hi),
+        }
+    }
+
+    // What is in the set and not in the other.
+    pub fn difference(self, other: Set) -> Set
+        ensures { λ r. ⌜ Difference self other r ⌝ }
+    {
+        Set {
+            lo: bit_and_not(self.lo, other.lo),
+            hi: bit_and_not(self.hi, other.hi),
+        }
+    }
+
+    // The set with w too, found without a branch.
+    pub fn with(self, w: usize) -> Set
+        requires { ⌜ w < 128 ⌝ }
+        ensures { λ r. ⌜ ((y : ℕ) → Has r y ↔ (Has self y ⊎ (y ≡ w))) ⌝ }
+    {
+        Set {
+            lo: self.lo | (((1 - w / 64) as u64) << (w % 64)),
+            hi: self.hi | (((w / 64) as u64) << (w % 64)),
+        }
+    }
+
+    pub fn without(self, w: usize) -> Set
+        requires { ⌜ w < 128 ⌝ }
+        ensures { λ r. ⌜ ((y : ℕ) → Has r y ↔ (Has self y × (y ≢ w))) ⌝ }
+    {
+        self.difference(Set::empty().with(w))
+    }
+
+    pub fn is_empty(self) -> bool
+        ensures { λ r. ⌜ (r ≡ true) ↔ Empty self ⌝ }
+    {
+        (self.lo == 0) & (self.hi == 0)
+    }
+
+    // The word of the two that has the bit of w.
+    fn half(self, w: usize) -> u64
+        ensures { λ r. ⌜ r ≡ halfOf self w ⌝ }
+    {
+        if w < 64 { self.lo } else { self.hi }
+    }
+
+    pub fn contains(self, w: usize) -> bool
+        ensures { λ r. ⌜ (r ≡ true) ↔ Has self w ⌝ }
+    {
+        (w < 128) & is_set(self.half(w), w % 64)
+    }
+
+    // The lowest number of the set, or 128.
+    pub fn lowest(self) -> usize
+        ensures { λ r. ⌜ First (Has self) 0 128 r ⌝ }
+    {
+        if self.lo != 0 {
+            return lowest_bit(self.lo);
+        }
+        if self.hi != 0 {
+            return 64 + lowest_bit(self.hi);
+        }
+        128
+    }
+
+    // The set with the highest number of another one too, and that number: one branch for both.
+    pub fn with_highest(self, other: Set) -> Marked
+        requires { ⌜ ¬ Empty other ⌝ }
+        ensures { λ r. ⌜ Last other (r .at) × ((y : ℕ) → Has (r .set) y ↔ (Has self y ⊎ (y ≡ r .at))) ⌝ }
+    {
+        if other.hi != 0 {
+            let k = highest_bit(other.hi);
+            let set = Set {
+                lo: self.lo,
+                hi: with_bit(self.hi, k),
+            };
+            return Marked { set, at: 64 + k };
+        }
+        let k = highest_bit(other.lo);
+        let set = Set {
+            lo: with_bit(self.lo, k),
+            hi: self.hi,
+        };
+        Marked { set, at: k }
+    }
+
+    // How many numbers are in the set.
+    pub fn count(self) -> usize
+        ensures { λ r. ⌜ (r ≡ sizeOf self) × (r ≤ 128) ⌝ }
+    {
+        count_bits(self.lo) + count_bits(self.hi)
+    }
+
+    // The numbers from a up to b.
+    pub fn between(a: usize, b: usize) -> Set
+        requires { ⌜ (a ≤ b) × (b ≤ 128) ⌝ }
+        ensures { λ r. ⌜ Members (λ (w : ℕ). (a ≤ w) × (w < b)) r ⌝ }
+    {
+        let mut set = Set::empty();
+        let mut i = a;
+        while i < b {
+            set = set.with(i);
+            i += 1;
+        }
+        set
+    }
+}
+
+// Sixteen bytes from `at` on as a set: document 01's rows and follower states.
+pub fn read_set(s: &[u8], at: usize) -> Set
+    requires { ⌜ at + 16 ≤ length (now s) ⌝ }
+    ensures { λ r. ⌜ Members (λ (w : ℕ). On (getD (now (s .entry)) (at + w / 8) 0) (w % 8)) r ⌝ }
+{
+    Set {
+        lo: read_u64(s, at),
+        hi: read_u64(s, at + 8),
+    }
+}

@@ -1,0 +1,79 @@
+// Answers as text, each word with a space before it.
+ghost use Prim.Native.Nat.{_≤_, _<_};
+ghost use Rattle.io.specs.Counts.{Counts};
+use crate::records::least;
+use report::Numbers;
+
+// Copies a part behind what the text has, as far as there is room.
+pub(crate) fn append(text: &mut [u8], at: usize, part: &[u8]) -> usize
+    requires { ⌜ Counts at (now text) ⌝ }
+    ensures { λ r. ⌜ Counts r (now (text .exit)) ⌝ }
+{
+    let room = least(part.len(), text.len() - at);
+    for i in 0..room {
+        text[at + i] = part[i];
+    }
+    at + room
+}
+
+fn append_value(text: &mut [u8], at: usize, value: u64) -> usize
+    requires { ⌜ Counts at (now text) ⌝ }
+    ensures { λ r. ⌜ Counts r (now (text .exit)) ⌝ }
+{
+    let mut digits = [0u8; 20];
+    let count = io::decimal(value, &mut digits);
+    let at = append(text, at, b" ");
+    append(text, at, &digits[..count])
+}
+
+// The verdict's first word, and the number of a refusal.
+fn append_word(text: &mut [u8], n: u64) -> usize
+    ensures { λ r. ⌜ Counts r (now (text .exit)) ⌝ }
+{
+    if n == 0 {
+        return append(text, 0, b" accepted");
+    }
+    let at = append(text, 0, b" refused");
+    append_value(text, at, n)
+}
+
+// As the checker writes it.
+pub(crate) fn write_verdict(text: &mut [u8], numbers: Numbers) -> usize
+    ensures { λ r. ⌜ Counts r (now (text .exit)) ⌝ }
+{
+    let at = append_word(text, numbers.n);
+    let at = append_value(text, at, numbers.p);
+    let at = append_value(text, at, numbers.q);
+    append_value(text, at, numbers.r)
+}
+
+fn glyph(digit: u8) -> u8
+    requires { ⌜ digit < 16 ⌝ }
+{
+    if digit < 10 {
+        b'0' + digit
+    } else {
+        b'A' - 10 + digit
+    }
+}
+
+fn append_byte(text: &mut [u8], at: usize, byte: u8) -> usize
+    requires { ⌜ Counts at (now text) ⌝ }
+    ensures { λ r. ⌜ Counts r (now (text .exit)) ⌝ }
+{
+    let digits = [b' ', glyph(byte / 16), glyph(byte % 16)];
+    append(text, at, &digits)
+}
+
+pub(crate) fn write_bytes(text: &mut [u8], bytes: &[u8]) -> usize
+    ensures { λ r. ⌜ Counts r (now (text .exit)) ⌝ }
+{
+    if bytes.len() == 0 {
+        return append(text, 0, b" nothing");
+    }
+    let mut at: usize = 0;
+    for i in 0..bytes.len() {
+        at = append_byte(text, at, bytes[i]);
+    }
+    at
+}

@@ -1,0 +1,16 @@
+use Rattle.chart.proofs.Searches.{from-below, from-below-cleared}
+use borrow.Author.Needs.{needs}
+use Rattle.chart.proofs.sets.cycle_from_below.Statement.{statement}
+use Rattle.chart.proofs.sets.cycle_from_below.Tie as tie
+
+first-turn-requires : tie.Need-first-turn-requires
+first-turn-requires c κs = search needs
+
+returns : tie.Need-returns
+returns c = from-below-cleared (c .before .before .first-turn .ensures) (c .before .if1 .taken)
+
+returns-2 : tie.Need-returns-2
+returns-2 c = from-below (c .before .first-turn .ensures) (c .if1 .left)
+
+pub cycle-from-below-spec : {M : Type 1} → statement M
+cycle-from-below-spec = tie.close (tie.spec first-turn-requires returns returns-2)
