@@ -15,7 +15,7 @@ use Rattle.bits.specs.declared.sets.Set.{Set}
 use Rattle.bits.specs.First.{First}
 use Rattle.bits.specs.Words.{On, LowestOn}
 use Rattle.bits.specs.Sets.{Has, emptySet, Members, Union}
-use Rattle.bits.specs.Tables.{rowOf, HasRow}
+use Rattle.bits.specs.Tables.{rowOf, HasRow, InFirst}
 use Rattle.bits.proofs.Members.{zero-off, none, has?}
 use Rattle.chart.specs.Bodies.{countOf, fromOf, actionOf, toOf, WellFormed}
 use Rattle.chart.specs.Leaving.{Begins}
@@ -24,7 +24,7 @@ use Rattle.bisimulation.specs.Relations.{indexedOf}
 use Rattle.bisimulation.specs.Answers.{Related, Passes}
 use Rattle.bisimulation.specs.Suspects.{Match, MatchedIn}
 use Rattle.bisimulation.specs.Places.{StepPlace}
-use Rattle.bisimulation.specs.Pairs.{Alone, Suspect, StepTables, Sought}
+use Rattle.bisimulation.specs.Pairs.{Alone, StepTables, Sought}
 use Rattle.bisimulation.proofs.RowLaws.{related-column}
 use Rattle.bisimulation.proofs.PlaceLaws.{one-place, key-order}
 use Rattle.bisimulation.proofs.StepLaws.{step-of, at-step, is-matched, is-match}
@@ -46,25 +46,8 @@ matched-more into acting body a i s x r l S X R k = ((λ on. there (R k .0 on)),
 pub matched-none : (into acting body : List ℕ) (a k : ℕ) → On 0 k ↔ MatchedIn into acting body a a k
 matched-none into acting body a k = ((λ on. absurd (zero-off k on)), (λ (j, p, q, M). absurd (omega arith)))
 
--- `suspects`: no set, and one more
-pub suspects-none : (table : List ℕ) {s : Set} → s ≡ emptySet → Members (Suspect table 0) s
-suspects-none table e = record { exactly = λ u l. ((λ h. absurd (none u (rw e at h))), (λ (v, m, h). absurd (omega arith))) }
-
-pub suspects-more : (table : List ℕ) (v : ℕ) {s q r : Set} → Members (Suspect table v) s → q ≡ rowOf table v → Union s q r → Members (Suspect table (v + 1)) r
-suspects-more table v {s} {q} {r} M e U = record { exactly = λ u l. ((λ h. there u l (U u .0 h)), back u l) }
-  where
-    there : (u : ℕ) → u < 128 → Has s u ⊎ Has q u → Suspect table (v + 1) u
-    there u l (inl h) = let (w, m, g) = M .exactly u l .0 h in (w, omega arith, g)
-    there u l (inr h) = (v, omega arith, rw e at h)
-
-    back : (u : ℕ) → u < 128 → Suspect table (v + 1) u → Has r u
-    back u l (w, m, h) =
-        by-cases (ℕ-discrete w v)
-        (λ f. U u .1 (inr (rw e (subst (λ (x : ℕ). HasRow table x u) f h))))
-        (λ f. U u .1 (inl (M .exactly u l .1 (w, omega arith, h))))
-
 -- each pair of a row that is in no set passes
-pub suspects-clear : {into acting words table body e relation : List ℕ} {set : Set} → Sought into acting words table body e relation → Members (Suspect table 128) set → (u : ℕ) → ¬ Has set u → (v : ℕ) → Related relation u v → Passes e body relation u v
+pub suspects-clear : {into acting words table body e relation : List ℕ} {set : Set} → Sought into acting words table body e relation → Members (InFirst table 128) set → (u : ℕ) → ¬ Has set u → (v : ℕ) → Related relation u v → Passes e body relation u v
 suspects-clear {relation = relation} S M u n v r = S .others u v r (λ h. n (M .exactly u (h .below) .1 (v, related-column relation u v r, h)))
 
 -- a transition that is not alone has a step that matches it

@@ -22,10 +22,6 @@ pub record Ready (into acting words body begins : List ℕ) : Type 0 where
 abbrev pub Alone : (into acting body : List ℕ) → (steps i : ℕ) → Type 0
 Alone into acting body steps i = (k : ℕ) → On steps k → ¬ Match into acting body i k
 
--- one of the first n sets of a table has u
-abbrev pub Suspect : List ℕ → (n u : ℕ) → Type 0
-Suspect table n u = (v : ℕ) × (v < n) × HasRow table v u
-
 -- the tables are those of the numbers of e's steps, and of a relation
 pub record StepTables (into acting words e relation : List ℕ) : Type 0 where
   pub formed : WellFormed e

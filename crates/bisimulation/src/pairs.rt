@@ -8,6 +8,7 @@ use bits::byte;
 use bits::lowest_bit;
 use bits::meets;
 use bits::tables::row;
+use bits::tables::union_of;
 use report::Place;
 use report::Stage;
 ghost use mathlib.Core.Path.{_≡_};
@@ -19,7 +20,8 @@ ghost use Rattle.bits.specs.First.{First};
 ghost use Rattle.bits.specs.Sets.{Members};
 ghost use Rattle.chart.specs.Bodies.{verticesOf, countOf};
 ghost use Rattle.bisimulation.specs.Suspects.{Tabled, MatchedIn};
-ghost use Rattle.bisimulation.specs.Pairs.{Ready, Alone, Suspect};
+ghost use Rattle.bisimulation.specs.Pairs.{Ready, Alone};
+ghost use Rattle.bits.specs.Tables.{InFirst};
 ghost use Rattle.bisimulation.specs.Pairs.{RelatedAnswer, PairSought, RowSought, AllSought};
 
 // The steps that match one of the transitions from a up to b.
@@ -156,7 +158,7 @@ fn suspect_row(
     requires { ⌜ Ready (now into) (now acting) (now words) (now body) (now begins)
         × (length (now table) ≡ 256)
         × (u < 128)
-        × Members (Suspect (now table) 128) set ⌝ }
+        × Members (InFirst (now table) 128) set ⌝ }
     ensures { λ r. ⌜ RowSought (now (into .entry)) (now (acting .entry)) (now (words .entry)) (now (table .entry))
         (now (body .entry)) u r ⌝ }
 {
@@ -164,20 +166,6 @@ fn suspect_row(
         return Stage::Passed;
     }
     check_row(into, acting, words, table, body, begins, u)
-}
-
-// The rows that are in some set of a table.
-fn suspects(table: &[u64; 256]) -> Set
-    requires { ⌜ length (now table) ≡ 256 ⌝ }
-    ensures { λ r. ⌜ Members (Suspect (now (table .entry)) 128) r ⌝ }
-{
-    let mut all = Set::empty();
-    let mut v: usize = 0;
-    while v < 128 {
-        all = all.union(row(table, v));
-        v += 1;
-    }
-    all
 }
 
 // 43, 44 and 45 of every pair, by row: also at vertices that nothing reaches.
@@ -196,7 +184,7 @@ pub(crate) fn search(
     ensures { λ r. ⌜ AllSought (now (into .entry)) (now (acting .entry)) (now (words .entry)) (now (table .entry))
         (now (body .entry)) vertices r ⌝ }
 {
-    let set = suspects(table);
+    let set = union_of(table, 128);
     if set.is_empty() {
         return Stage::Passed;
     }

@@ -13,7 +13,7 @@ use lib.Seq.{getD-set-same, getD-set-other, ext-getD}
 use Rattle.bits.specs.declared.sets.Set.{Set}
 use Rattle.bits.specs.Words.{On, With, Without}
 use Rattle.bits.specs.Sets.{Has, emptySet, Members, Union, SetFits}
-use Rattle.bits.specs.Tables.{rowOf, HasRow, putRow, Words, Table, Gains, When, Above, InSome}
+use Rattle.bits.specs.Tables.{rowOf, HasRow, putRow, Words, Table, Gains, When, Above, InSome, InFirst}
 use Rattle.bits.proofs.Members.{⊎-map, zero-off, none, words-zero, one-set}
 
 -- a list of one number
@@ -246,6 +246,23 @@ module _ {a : List ℕ} {x rest : ℕ} {s : Set} (S : Uniting a x rest s) where
 
   pub unite-all : rest ≡ 0 → Members (InSome a x) s
   unite-all e = record { exactly = λ w m. (S .only w, λ (i, h, k). ⊎-elim (λ g. g) (λ o. absurd (zero-off i (rw e at o))) (S .come w i h k)) }
+
+-- `union_of`: no set, and one more
+pub union-none : (a : List ℕ) {s : Set} → s ≡ emptySet → Members (InFirst a 0) s
+union-none a e = record { exactly = λ w l. ((λ h. absurd (none w (rw e at h))), (λ (v, m, h). absurd (omega arith))) }
+
+pub union-more : (a : List ℕ) (v : ℕ) {s q r : Set} → Members (InFirst a v) s → q ≡ rowOf a v → Union s q r → Members (InFirst a (v + 1)) r
+union-more a v {s} {q} {r} M e U = record { exactly = λ w l. ((λ h. there w l (U w .0 h)), back w l) }
+  where
+    there : (w : ℕ) → w < 128 → Has s w ⊎ Has q w → InFirst a (v + 1) w
+    there w l (inl h) = let (x, m, g) = M .exactly w l .0 h in (x, omega arith, g)
+    there w l (inr h) = (v, omega arith, rw e at h)
+
+    back : (w : ℕ) → w < 128 → InFirst a (v + 1) w → Has r w
+    back w l (x, m, h) =
+        by-cases (ℕ-discrete x v)
+        (λ f. U w .1 (inr (rw e (subst (λ (y : ℕ). HasRow a y w) f h))))
+        (λ f. U w .1 (inl (M .exactly w l .1 (x, omega arith, h))))
 
 -- ONE TABLE: what a table has determines its words
 row-fits : (a : List ℕ) (x : ℕ) → Words a → SetFits (rowOf a x)

@@ -46,3 +46,7 @@ Above v x w = (k : ℕ) × (w ≡ v + k) × On x k
 -- some set of the table for a bit of x has w
 abbrev pub InSome : List ℕ → ℕ → ℕ → Type 0
 InSome a x w = (i : ℕ) × On x i × HasRow a i w
+
+-- one of the first n sets of the table has w
+abbrev pub InFirst : List ℕ → ℕ → ℕ → Type 0
+InFirst a n w = (v : ℕ) × (v < n) × HasRow a v w

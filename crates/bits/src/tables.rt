@@ -11,7 +11,7 @@ ghost use Prim.Native.Nat.{ℕ, _+_, _*_, _≤_, _<_};
 ghost use lib.ListN.{length};
 ghost use Rattle.bits.specs.Words.{On};
 ghost use Rattle.bits.specs.Sets.{Has, Members};
-ghost use Rattle.bits.specs.Tables.{rowOf, HasRow, putRow, Gains, Above, InSome};
+ghost use Rattle.bits.specs.Tables.{rowOf, HasRow, putRow, Gains, Above, InSome, InFirst};
 
 // Set v of a table.
 pub fn row(table: &[u64], v: usize) -> Set
@@ -81,6 +81,20 @@ pub fn united(table: &[u64], x: u64) -> Set
     while left != 0 {
         all = all.union(row(table, lowest_bit(left)));
         left = without_lowest(left);
+    }
+    all
+}
+
+// The union of the first n sets of a table.
+pub fn union_of(table: &[u64], n: usize) -> Set
+    requires { ⌜ 2 * n ≤ length (now table) ⌝ }
+    ensures { λ r. ⌜ Members (InFirst (now (table .entry)) n) r ⌝ }
+{
+    let mut all = Set::empty();
+    let mut v: usize = 0;
+    while v < n {
+        all = all.union(row(table, v));
+        v += 1;
     }
     all
 }

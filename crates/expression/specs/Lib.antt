@@ -1,9 +1,10 @@
--- What is meant: the node table and its checks, the chart's body and what writing it answers, and what the chart is.
+-- The definitions. The meaning: Charts, and WellFormed and NodesChecked in Table. The tests that run: checkOf in Table,
+-- and Body.
 pub mod Table
 pub mod Body
 pub mod Charts
--- The code's way there: the uses, where each node leads, the keys of the leaves and their ranks, the first actions as
--- words, and the transitions in order.
+-- What only serves proofs, the code's way there: the uses, where each node leads, the keys of the leaves and their
+-- ranks, the first actions as words, and the transitions in order.
 pub mod Uses
 pub mod Targets
 pub mod Keys

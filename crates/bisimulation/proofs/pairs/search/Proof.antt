@@ -7,21 +7,22 @@ use lib.ListN.{length}
 use borrow.Author.Count.{below-more}
 use Rattle.theory.specs.Relations.{related, all-pass}
 use Rattle.bits.specs.Sets.{Members}
+use Rattle.bits.specs.Tables.{InFirst}
 use Rattle.bisimulation.specs.Answers.{Related, Passes}
-use Rattle.bisimulation.specs.Pairs.{Ready, Suspect, Sought}
+use Rattle.bisimulation.specs.Pairs.{Ready, Sought}
 use Rattle.bisimulation.proofs.PairChecks.{rows-stop}
 use Rattle.bisimulation.proofs.PairLaws.{suspects-clear}
 use Rattle.bisimulation.proofs.pairs.search.Statement.{statement}
 use Rattle.bisimulation.proofs.pairs.search.Tie as tie
 
 abbrev Inv-loop : tie.InvT-loop
-Inv-loop into acting words table body begins vertices set u₀ u = Ready into acting words body begins × (length table ≡ 256) × (vertices ≤ 128) × Members (Suspect table 128) set × ((e relation : List ℕ) → Sought into acting words table body e relation → (a : ℕ) → a < u → (w : ℕ) → Related relation a w → Passes e body relation a w)
+Inv-loop into acting words table body begins vertices set u₀ u = Ready into acting words body begins × (length table ≡ 256) × (vertices ≤ 128) × Members (InFirst table 128) set × ((e relation : List ℕ) → Sought into acting words table body e relation → (a : ℕ) → a < u → (w : ℕ) → Related relation a w → Passes e body relation a w)
 
 abbrev μ-loop : tie.MeasureT-loop
 μ-loop into acting words table body begins vertices set u₀ u = vertices - u
 
-suspects-requires : tie.Need-suspects-requires Inv-loop μ-loop
-suspects-requires c κs = c .before .pre .1
+union-of-requires : tie.Need-union-of-requires Inv-loop μ-loop
+union-of-requires c κs = search needs
 
 is-empty-requires : tie.Need-is-empty-requires Inv-loop μ-loop
 is-empty-requires c κs = search needs
@@ -29,10 +30,10 @@ is-empty-requires c κs = search needs
 returns : tie.Need-returns Inv-loop μ-loop
 returns c = λ e relation S q z.
     let f = c .before .is-empty .ensures .0 (c .if1 .taken) in
-    (related, all-pass z (λ u. suspects-clear S (c .before .before .suspects .ensures) u (f u)), refl)
+    (related, all-pass z (λ u. suspects-clear S (c .before .before .union-of .ensures) u (f u)), refl)
 
 loop-holds : tie.Need-loop-holds Inv-loop μ-loop
-loop-holds c = let p = c .before .before .before .before .pre in (p .0, p .1, p .2, c .before .before .suspects .ensures, λ e relation S a h. absurd (omega arith))
+loop-holds c = let p = c .before .before .before .before .before .pre in (p .0, p .1, p .2, c .before .before .union-of .ensures, λ e relation S a h. absurd (omega arith))
 
 suspect-row-requires : tie.Need-suspect-row-requires Inv-loop μ-loop
 suspect-row-requires c κs = let i = c .before .loop .inv in (i .0, i .1, omega (arith, i .2, c .loop-test .taken), i .3)
@@ -66,7 +67,7 @@ search-spec =
     (tie.spec
     Inv-loop
     μ-loop
-    suspects-requires
+    union-of-requires
     is-empty-requires
     returns
     loop-holds
