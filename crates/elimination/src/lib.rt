@@ -1,0 +1,1 @@
+// Taking out a loop [50 to 52].
