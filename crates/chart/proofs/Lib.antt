@@ -5,6 +5,7 @@ pub mod Refusals
 pub mod Order
 pub mod Parts
 pub mod Searches
+pub mod Walks
 pub mod Kept
 pub mod Relations
 pub mod Standing

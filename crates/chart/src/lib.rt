@@ -1,5 +1,6 @@
 // Chart bodies (document 01, kind 2): a header of four bytes (V, start, two of T) and T transitions of four bytes.
 pub mod sets;
+pub mod ways;
 
 ghost use mathlib.Core.Path.{_≡_};
 ghost use Prim.Native.Nat.{ℕ, _+_, _*_, _≤_, _<_};
@@ -7,7 +8,7 @@ ghost use lib.ListN.{length, getD};
 ghost use Rattle.chart.specs.Bodies.{countOf};
 ghost use Rattle.chart.specs.Checks.{headerOk, checkOf};
 ghost use Rattle.chart.specs.Codes.{reversedOf, codeOk};
-ghost use Rattle.chart.specs.Leaving.{leavingAt, leavingOf, FromBelow, NotPast, Begins};
+ghost use Rattle.chart.specs.Leaving.{leavingAt, leavingOf, FromBelow, RangeOf, NotPast, Begins};
 ghost use Rattle.chart.specs.Steps.{Kept};
 ghost use Rattle.bits.specs.First.{Split};
 ghost use Rattle.bits.specs.Tables.{Table, Gains, When};
@@ -17,6 +18,7 @@ use bits::read_u32;
 use bits::tables::insert;
 use report::Place;
 use report::Stage;
+use sets::Span;
 
 // T, the number of transitions that the header declares.
 pub fn count(body: &[u8]) -> usize
@@ -99,17 +101,28 @@ fn lower(body: &[u8], n: usize, v: usize) -> usize
     lo
 }
 
+// Where the transitions of v stand, by their index.
+pub fn range_of(body: &[u8], v: usize) -> Span
+    requires { ⌜ checkOf (now body) ≡ Stage.Passed ⌝ }
+    ensures { λ r. ⌜ RangeOf (now (body .entry)) v r ⌝ }
+{
+    let n = count(body);
+    if v >= byte(body, 0) {
+        return Span { from: n, to: n };
+    }
+    let from = lower(body, n, v);
+    let to = lower(body, n, v + 1);
+    Span { from, to }
+}
+
 // The transitions of a body that passes which leave v.
 fn leaving_part(body: &[u8], v: usize) -> &[u8]
     requires { ⌜ checkOf (now body) ≡ Stage.Passed ⌝ }
     ensures { λ r. ⌜ now r ≡ leavingAt (now (body .entry)) v 0 (countOf (now (body .entry))) ⌝ }
 {
-    if v >= byte(body, 0) {
-        return &body[..0];
-    }
-    let n = count(body);
-    let a = 4 * lower(body, n, v) + 4;
-    let e = 4 * lower(body, n, v + 1) + 4;
+    let range = range_of(body, v);
+    let a = 4 * range.from + 4;
+    let e = 4 * range.to + 4;
     &body[a..e]
 }
 
