@@ -1,8 +1,8 @@
 -- The tests of a removal say what document 01 says, both ways; and what a call leaves of the standing bytes.
 use Prim.Native.Nat.{ℕ, zero, suc, _+_, _<_}
 use mathlib.Core.Path.{_≡_, refl, sym, _∙_, ap, subst}
-use mathlib.Core.Logic.{_≢_, _⊎_, inl, inr, ⊎-elim, _↔_, by-cases}
-use mathlib.Core.Bool.{Bool, true, false, cond, _&&_}
+use mathlib.Core.Logic.{_≢_, ⊎-elim, _↔_, by-cases}
+use mathlib.Core.Bool.{Bool, cond, _&&_}
 use mathlib.Core.List.{List, [], _∷_}
 use native.Mathlib.Decide.{ℕ-discrete, decLe}
 use native.Mathlib.Omega.{arith}
@@ -11,7 +11,7 @@ use lib.ListN.{length, getD}
 use borrow.Author.Tests.{eq-eqb, ne-eqb}
 use Rattle.theory.specs.Charts.{Formed, Loop}
 use Rattle.theory.specs.LoopCharts.{Around, LoopChart}
-use Rattle.theory.specs.Removals.{Answer, done, refused-51, refused-52, Removes, Different}
+use Rattle.theory.specs.Removals.{Answer, Removes}
 use Rattle.theory.specs.Tests.{Decides}
 use Rattle.theory.specs.RemovalTests.{ruleAnswer}
 use Rattle.theory.proofs.Tests.{decided, is-false, decides-same, decides-and, decides-not, decides-eqb, decides-ltb, decides-below}
@@ -31,7 +31,7 @@ use Rattle.chart.specs.Standing.{TakenOut}
 use Rattle.chart.proofs.Checks.{well-formed, passes, check-20, check-21}
 use Rattle.chart.proofs.Refusals.{refused-places}
 use Rattle.chart.proofs.Relations.{steps-formed, steps-listed, standing-step}
-use Rattle.elimination.specs.Removals.{removedAs, standingTest, onChart, whenDone, standsTest, ruledOf, removalOf, clearedFrom, leftOf}
+use Rattle.elimination.specs.Removals.{removedAs, standingTest, whenDone, standsTest, ruledOf, removalOf, clearedFrom, leftOf}
 use Rattle.elimination.specs.RemovalAnswers.{StandingFits, Fits, RemovalAnswer, other-header, faulty-at, other-length, other-standing, ruled}
 
 -- the test of 50 decides what 50 asks
@@ -45,7 +45,8 @@ tests-standing b standing =
       }),
       (λ f. (f .long, λ (i, h, l). omega (arith, f .marks i h))),
     )
-    (decides-and (decides-eqb (length standing) (countOf b)) (decides-not (decides-below (λ i. decides-ltb 1 (getD standing i 0)) (countOf b))))
+    (decides-and (decides-eqb (length standing) (countOf b))
+    (decides-not (decides-below (λ i. decides-ltb 1 (getD standing i 0)) (countOf b))))
 
 module _ (b labels standing : List ℕ) where
   -- the test of a transition decides which stand
@@ -56,7 +57,10 @@ module _ (b labels standing : List ℕ) where
         (λ (i, h, (p, (q, (r, s)))). record { at = i; within = h; leaves = p; enters = r; holds = record { label = q; stands = s } }),
         (λ s. (s .at, s .within, (s .leaves, (s .holds .label, (s .enters, s .holds .stands))))),
       )
-      (decides-below (λ i. decides-and (decides-eqb (fromOf b i) u) (decides-and (decides-eqb (getD labels i 0) l) (decides-and (decides-eqb (toOf b i) w) (decides-eqb (getD standing i 0) 1)))) (countOf b))
+      (decides-below (λ i.
+      decides-and (decides-eqb (fromOf b i) u)
+      (decides-and (decides-eqb (getD labels i 0) l)
+      (decides-and (decides-eqb (toOf b i) w) (decides-eqb (getD standing i 0) 1)))) (countOf b))
 
   -- what stands is a chart's
   pub standing-formed : WellFormed b → Formed (verticesOf b) (StandingOf b labels standing)
@@ -105,12 +109,15 @@ module _ (b labels : List ℕ) (v l : ℕ) (standing : List ℕ) where
 
   removal-fits : Fits b labels standing → removalOf b labels v l standing ≡ ruledOf b labels v l standing
   unfolding removalOf
-  removal-fits f = rw (passes b (f .formed), eq-eqb (length labels) (countOf b) (f .each), tests-standing b standing .1 (f .marked))
+  removal-fits f =
+      rw (passes b (f .formed), eq-eqb (length labels) (countOf b) (f .each), tests-standing b standing .1 (f .marked))
 
   -- DONE, 51 AND 52: where the rest passes, the answer is the rule's
   rule-says : Bytes labels → WellFormed b
       → Removes (StandingOf b labels standing) v l (ruleAnswer (standsTest b labels standing) (verticesOf b) 256 v l)
-  rule-says B W = rule-answer (tests-stands b labels standing) (standing-formed b labels standing W) (standing-labels b labels standing B) v l
+  rule-says B W =
+      rule-answer (tests-stands b labels standing) (standing-formed b labels standing W)
+      (standing-labels b labels standing B) v l
 
   pub removal-ruled : Bytes labels → Fits b labels standing → {a : Answer} → Removes (StandingOf b labels standing) v l a
       → removalOf b labels v l standing ≡ removedAs a
@@ -137,6 +144,35 @@ module _ (b labels : List ℕ) (v l : ℕ) (standing : List ℕ) where
       go (Removes.breaks-L1 o h) q = let z : _≡_ {A = ℕ} 0 1 = cc in absurd (omega arith)
       go (Removes.breaks-L2 o p h) q = let z : _≡_ {A = ℕ} 0 1 = cc in absurd (omega arith)
       go (Removes.breaks-L3 o p h s) q = let z : _≡_ {A = ℕ} 0 1 = cc in absurd (omega arith)
+
+  -- THE ANSWER IS a exactly where document 01 says so
+  module _ (B : Bytes labels) where
+    -- 20 and 21 are all that the check of the chart refuses
+    chart-answer : (p : Place) → checkOf b ≡ stage.Refused p → RemovalAnswer b labels v l standing (Refused p)
+    chart-answer p c =
+        ⊎-elim
+        (λ e. rw e (other-header (check-20 b .0 (rw e at c))))
+        (λ (i, e). let (h, f) = check-21 b i .0 (rw e at c) in rw e (faulty-at h f))
+        (refused-places b c)
+
+    removal-answer : RemovalAnswer b labels v l standing (removalOf b labels v l standing)
+    unfolding ruledOf
+    removal-answer =
+        stages
+        (λ p c. rw (removal-refused p c) (chart-answer p c))
+        (λ c h. rw (removal-long c h) (other-length (well-formed b c) h))
+        (λ c h n. rw (removal-standing c h n) (other-standing (well-formed b c) h n))
+        (λ f. rw (removal-fits f) (ruled f (rule-says B (f .formed))))
+
+    answer-removal : {a : Removed} → RemovalAnswer b labels v l standing a → removalOf b labels v l standing ≡ a
+    answer-removal (other-header h) = removal-refused _ (check-20 b .1 h)
+    answer-removal (faulty-at h f) = removal-refused _ (check-21 b _ .1 (h, f))
+    answer-removal (other-length W h) = removal-long (passes b W) h
+    answer-removal (other-standing W h n) = removal-standing (passes b W) h n
+    answer-removal (ruled f r) = removal-ruled B f r
+
+    pub removal-says : (a : Removed) → (removalOf b labels v l standing ≡ a) ↔ RemovalAnswer b labels v l standing a
+    removal-says a = ((λ e. subst (RemovalAnswer b labels v l standing) e removal-answer), answer-removal)
 
 -- THE STANDING BYTES after the call
 module _ (b labels : List ℕ) (v l : ℕ) where
@@ -185,3 +221,8 @@ module _ (b labels : List ℕ) (v l : ℕ) where
       go StandingBytes n = refl
       go (NoEntry u m) n = refl
       go (NotLoop u m r) n = refl
+
+  -- done: exactly the entries of the loop are gone
+  pub done-leaves : (standing : List ℕ) → removalOf b labels v l standing ≡ Done
+      → TakenOut b labels v l standing (leftOf b labels v l standing)
+  done-leaves standing e = rw (left-done standing e) (cleared-taken standing (done-fits b labels v l standing e .marked .long))
