@@ -1,2 +1,5 @@
 -- The laws.
 pub mod Removals
+pub mod Loops
+pub mod Entries
+pub mod Answers
