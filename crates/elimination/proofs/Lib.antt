@@ -1,5 +1,6 @@
 -- The laws.
 pub mod Removals
+pub mod Lists
 pub mod Loops
 pub mod Entries
 pub mod Answers
