@@ -24,6 +24,11 @@ fn all_of_a_small_chart() {
 }
 
 #[test]
+fn at_the_limits() {
+    removals::at_the_limits(remove);
+}
+
+#[test]
 fn worst_files() {
     removals::worst_files(remove);
 }

@@ -34,6 +34,11 @@ fn loop_inside_a_loop() {
 }
 
 #[test]
+fn at_the_limits() {
+    removals::at_the_limits(remove);
+}
+
+#[test]
 fn worst_files() {
     removals::worst_files(remove);
 }

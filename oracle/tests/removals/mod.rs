@@ -267,3 +267,19 @@ pub fn worst_files(remove: Remove) {
         assert_eq!(standing, branches(&yard), "{name}");
     }
 }
+
+/// Removals from the largest charts.
+pub fn at_the_limits(remove: Remove) {
+    let mut trial = Trial::of(remove);
+    for (name, mut removal) in gen::worst::removals() {
+        assert_eq!(removal.chart[..4], [128, 127, 0, 32], "{name}");
+        let pair = (removal.vertex as u64, removal.level as u64);
+        let yard = Yard {
+            chart: removal.chart,
+            labelling: removal.labels,
+            ..g()
+        };
+        trial.call(&yard, pair, &mut removal.standing, &name);
+    }
+    trial.saw(&[(0, 0), (51, 0), (52, 1), (52, 2), (52, 3)], 1, 8);
+}
