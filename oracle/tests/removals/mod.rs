@@ -15,19 +15,19 @@ const DONE: Answer = Answer::fine(0, 0, 0);
 
 /// A removal that is tried, and how often it gave each answer: the number,
 /// with 52 the r.
-struct Trial {
+pub struct Trial {
     remove: Remove,
     seen: BTreeMap<(u64, u64), u64>,
 }
 
 impl Trial {
-    fn of(remove: Remove) -> Trial {
+    pub fn of(remove: Remove) -> Trial {
         let seen = BTreeMap::new();
         Trial { remove, seen }
     }
 
     /// Both removals' one answer, on one set of standing bytes.
-    fn call(
+    pub fn call(
         &mut self,
         yard: &Yard,
         (v, level): (u64, u64),
