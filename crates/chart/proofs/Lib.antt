@@ -5,7 +5,6 @@ pub mod Refusals
 pub mod Order
 pub mod Parts
 pub mod Searches
-pub mod Walks
 pub mod Kept
 pub mod Relations
 pub mod Standing

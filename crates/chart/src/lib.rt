@@ -1,6 +1,5 @@
 // Chart bodies (document 01, kind 2): a header of four bytes (V, start, two of T) and T transitions of four bytes.
 pub mod sets;
-pub mod ways;
 
 ghost use mathlib.Core.Path.{_≡_};
 ghost use Prim.Native.Nat.{ℕ, _+_, _*_, _≤_, _<_};
@@ -11,11 +10,11 @@ ghost use Rattle.chart.specs.Codes.{reversedOf, codeOk};
 ghost use Rattle.chart.specs.Leaving.{leavingAt, leavingOf, FromBelow, RangeOf, NotPast, Begins};
 ghost use Rattle.chart.specs.Steps.{Kept};
 ghost use Rattle.bits.specs.First.{Split};
-ghost use Rattle.bits.specs.Tables.{Table, Gains, When};
+ghost use Rattle.bits.specs.Sets.{Members};
+use bits::Set;
 use bits::byte;
 use bits::read_u16;
 use bits::read_u32;
-use bits::tables::insert;
 use report::Place;
 use report::Stage;
 use sets::Span;
@@ -187,28 +186,20 @@ pub fn begins(body: &[u8]) -> [usize; 129]
     begins
 }
 
-// Where the flag is 1, puts w into set v of a table.
-fn insert_flagged(flag: usize, table: &mut [u64], v: usize, w: usize)
-    requires { ⌜ (2 * v + 2 ≤ length (now table)) × (w < 128) ⌝ }
-    ensures { λ _. ⌜ Gains (When (flag ≡ 1) v w) (now (table .entry)) (now (table .exit)) ⌝ }
+// What the transitions of u lead to whose `keep` byte is 1.
+pub fn kept_row(body: &[u8], keep: &[u8], begins: &[usize; 129], u: usize) -> Set
+    requires { ⌜ (checkOf (now body) ≡ Stage.Passed)
+        × (countOf (now body) ≤ length (now keep))
+        × Begins (now body) (now begins)
+        × (u < 128) ⌝ }
+    ensures { λ r. ⌜ Members (Kept (now (body .entry)) (now (keep .entry)) u) r ⌝ }
 {
-    if flag == 1 {
-        insert(table, v, w);
-    }
-}
-
-// The transitions whose `keep` byte is 1, as a table: set u has what they enter from u.
-pub fn kept_table(body: &[u8], keep: &[u8]) -> [u64; 256]
-    requires { ⌜ (checkOf (now body) ≡ Stage.Passed) × (countOf (now body) ≤ length (now keep)) ⌝ }
-    ensures { λ r. ⌜ Table 128 (Kept (now (body .entry)) (now (keep .entry))) r ⌝ }
-{
-    let n = count(body);
-    let mut table = [0u64; 256];
-    let mut i: usize = 0;
-    while i < n {
-        let p = 4 * i + 4;
-        insert_flagged(byte(keep, i), &mut table, byte(body, p), byte(body, p + 2));
+    let end = begins[u + 1];
+    let mut set = Set::empty();
+    let mut i = begins[u];
+    while i < end {
+        set = set.with_if(byte(body, 4 * i + 4 + 2), byte(keep, i) == 1);
         i += 1;
     }
-    table
+    set
 }

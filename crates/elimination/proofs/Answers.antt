@@ -12,10 +12,8 @@ use Rattle.report.specs.declared.Removed.{Removed}
 use Rattle.report.specs.declared.Removed.the-variants.{Done, Refused, StandingBytes, NoEntry, NotLoop}
 use Rattle.bits.specs.declared.sets.Set.{Set}
 use Rattle.bits.specs.Sets.{Has, Empty, Members}
-use Rattle.bits.specs.Tables.{Table}
 use Rattle.bits.proofs.Members.{has?}
 use Rattle.chart.specs.Bodies.{verticesOf}
-use Rattle.chart.specs.Sets.{Leads}
 use Rattle.chart.specs.Steps.{Kept, StandingOf}
 use Rattle.chart.specs.Standing.{TakenOut}
 use Rattle.chart.proofs.Standing.{one-taken}
@@ -24,7 +22,7 @@ use Rattle.elimination.specs.RemovalAnswers.{Fits}
 use Rattle.elimination.specs.Loops.{EntryTargets, Broken, Ruled, isDone}
 use Rattle.elimination.proofs.Removals.{standing-formed, done-fits, done-leaves, left-kept}
 use Rattle.elimination.proofs.Loops.{broken-same, nothing-broken, first-broken}
-use Rattle.elimination.proofs.Entries.{table-any}
+use Rattle.elimination.proofs.Entries.{kept-any}
 
 module _ {b labels standing : List ℕ} {v l : ℕ} (F : Fits b labels standing) {targets : Set}
     (M : Members (EntryTargets b labels standing v l) targets) where
@@ -49,12 +47,12 @@ module _ {b labels standing : List ℕ} {v l : ℕ} (F : Fits b labels standing)
   start-low n = let (p, w, s) = some-stands n in omega (arith, stands .from-vertex v l w s, F .formed .header .vertices-high)
 
   -- 52, or done
-  module _ (n : ¬ Empty targets) {a : List ℕ} (T : Table 128 (Kept b standing) a) {r : ℕ} (B : Broken v (Has targets) (Leads a) r) where
+  module _ (n : ¬ Empty targets) {r : ℕ} (B : Broken v (Has targets) (Kept b standing) r) where
     entries : (w : ℕ) → Has targets w ↔ StandingOf b labels standing v l w
     entries w = ((λ h. M .exactly w (h .below) .0 h .1), (λ s. M .exactly w (target-low w s) .1 (some-stands n .0, s)))
 
     standing-broken : Broken v (StandingOf b labels standing v l) (Any (StandingOf b labels standing)) r
-    standing-broken = broken-same entries (table-any b labels standing (F .formed) T) B
+    standing-broken = broken-same entries (kept-any b labels standing) B
 
     pub goes : r ≡ 0 → Ruled b labels standing v l Done
     goes e = (done, refl, nothing-broken stands (some-stands n) e standing-broken)

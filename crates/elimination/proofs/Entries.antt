@@ -2,7 +2,7 @@
 use Prim.Native.Nat.{ℕ, _+_, _≤_, _<_}
 use mathlib.Core.Path.{_≡_, refl, sym, _∙_, subst}
 use mathlib.Core.Logic.{_≢_, _⊎_, inl, inr, ⊎-elim, _↔_, by-cases}
-use mathlib.Core.Bool.{Bool, true, false, _&&_}
+use mathlib.Core.Bool.{true, _&&_}
 use mathlib.Core.List.{List}
 use native.Mathlib.Decide.{ℕ-discrete, decLt}
 use native.Mathlib.Omega.{arith}
@@ -10,22 +10,23 @@ use lib.Dec.{eqb, leb}
 use lib.ListN.{length, getD, set, length-set}
 use lib.Seq.{getD-set-same, getD-set-other}
 use Rattle.theory.specs.Charts.{Any}
-use Rattle.theory.proofs.Tests.{not-so, decides-same, decides-and, decides-eqb, decides-leb}
+use Rattle.theory.proofs.Tests.{decides-same, decides-and, decides-eqb, decides-leb}
 use Rattle.theory.specs.Tests.{Decides}
+use Rattle.report.specs.declared.Stage.the-variants as stage
 use Rattle.bits.specs.Bits.{HighestByte}
 use Rattle.bits.specs.declared.sets.Set.{Set}
 use Rattle.bits.specs.Sets.{Has, emptySet, Members}
-use Rattle.bits.specs.Tables.{Table}
 use Rattle.bits.proofs.Members.{none}
 use Rattle.chart.specs.declared.sets.Span.{Span}
-use Rattle.chart.specs.Bodies.{countOf, fromOf, toOf, WellFormed}
+use Rattle.chart.specs.Bodies.{countOf, fromOf, toOf}
+use Rattle.chart.specs.Checks.{checkOf}
 use Rattle.chart.specs.Leaving.{RangeOf}
-use Rattle.chart.specs.Sets.{Leads}
 use Rattle.chart.specs.Steps.{Kept, StandingOf}
 use Rattle.chart.specs.Standing.{TakenOut}
-use Rattle.chart.proofs.Kept.{from-low, to-low}
+use Rattle.chart.proofs.Checks.{well-formed}
+use Rattle.chart.proofs.Kept.{to-low}
 use Rattle.chart.proofs.Order.{at-mid, between}
-use Rattle.elimination.specs.RemovalAnswers.{StandingFits, Fits}
+use Rattle.elimination.specs.RemovalAnswers.{StandingFits}
 use Rattle.elimination.specs.Loops.{EntryTargets}
 
 -- 50 as two comparisons
@@ -38,20 +39,6 @@ fits-test b standing n h e H = decides-same (to, from) (decides-and (decides-eqb
 
     from : StandingFits b standing → (length standing ≡ n) × (h ≤ 1)
     from f = (f .long ∙ sym e, by-cases (ℕ-discrete h 0) (λ z. omega arith) (λ z. let (i, l, q) = H .is-byte (omega arith) in omega (arith, q, f .marks i (omega (arith, l, f .long)))))
-
--- one target more where an entry stands
-module _ {s : Set} {w label level stands : ℕ} where
-  pub with-entry : {r : Set} → (eqb label level && eqb stands 1) ≡ true → ((y : ℕ) → Has r y ↔ (Has s y ⊎ (y ≡ w)))
-      → (y : ℕ) → Has r y ↔ (Has s y ⊎ (((label ≡ level) × (stands ≡ 1)) × (y ≡ w)))
-  with-entry t W y =
-      let p = decides-and (decides-eqb label level) (decides-eqb stands 1) .0 t in
-      ((λ h. ⊎-elim inl (λ e. inr (p, e)) (W y .0 h)), (λ h. W y .1 (⊎-elim inl (λ e. inr (e .1)) h)))
-
-  pub without-entry : (eqb label level && eqb stands 1) ≡ false
-      → (y : ℕ) → Has s y ↔ (Has s y ⊎ (((label ≡ level) × (stands ≡ 1)) × (y ≡ w)))
-  without-entry t y =
-      let n = not-so (decides-and (decides-eqb label level) (decides-eqb stands 1)) t in
-      (inl, (λ h. ⊎-elim (λ g. g) (λ e. absurd (n (e .0))) h))
 
 module _ (b labels standing : List ℕ) where
   -- a standing transition of level l leads to w, at an index from one up to another
@@ -67,18 +54,21 @@ module _ (b labels standing : List ℕ) where
   entry-none e = record { exactly = λ w h. ((λ g. absurd (none w (rw e at g))), (λ g. absurd (omega (arith, g .above, g .below)))) }
 
   pub entry-more : {l from i w label stands : ℕ} {s r : Set} → from ≤ i → Members (EntryIn l from i) s → w ≡ toOf b i → label ≡ getD labels i 0
-      → stands ≡ getD standing i 0 → ((y : ℕ) → Has r y ↔ (Has s y ⊎ (((label ≡ l) × (stands ≡ 1)) × (y ≡ w)))) → Members (EntryIn l from (i + 1)) r
+      → stands ≡ getD standing i 0 → ((y : ℕ) → Has r y ↔ (Has s y ⊎ (((eqb label l && eqb stands 1) ≡ true) × (y ≡ w)))) → Members (EntryIn l from (i + 1)) r
   entry-more {l} {from} {i} {w} {label} {stands} {s} {r} o M p q t W = record { exactly = λ y h. (to y h, back y h) }
     where
+      entry : Decides (eqb label l && eqb stands 1) ((label ≡ l) × (stands ≡ 1))
+      entry = decides-and (decides-eqb label l) (decides-eqb stands 1)
+
       to : (y : ℕ) → y < 128 → Has r y → EntryIn l from (i + 1) y
       to y h g = ⊎-elim
           (λ k. let e = M .exactly y h .0 k in record { at = e .at; above = e .above; below = omega (arith, e .below); enters = e .enters; label = e .label; stands = e .stands })
-          (λ (k, z). record { at = i; above = o; below = omega arith; enters = sym p ∙ sym z; label = sym q ∙ k .0; stands = sym t ∙ k .1 })
+          (λ (g, z). let k = entry .0 g in record { at = i; above = o; below = omega arith; enters = sym p ∙ sym z; label = sym q ∙ k .0; stands = sym t ∙ k .1 })
           (W y .0 g)
 
       back : (y : ℕ) → y < 128 → EntryIn l from (i + 1) y → Has r y
       back y h e = W y .1 (by-cases (ℕ-discrete (e .at) i)
-          (λ z. inr ((q ∙ subst (λ (j : ℕ). getD labels j 0 ≡ l) z (e .label), t ∙ subst (λ (j : ℕ). getD standing j 0 ≡ 1) z (e .stands)), sym (subst (λ (j : ℕ). toOf b j ≡ y) z (e .enters)) ∙ sym p))
+          (λ z. inr (entry .1 (q ∙ subst (λ (j : ℕ). getD labels j 0 ≡ l) z (e .label), t ∙ subst (λ (j : ℕ). getD standing j 0 ≡ 1) z (e .stands)), sym (subst (λ (j : ℕ). toOf b j ≡ y) z (e .enters)) ∙ sym p))
           (λ z. inl (M .exactly y h .1 (record { at = e .at; above = e .above; below = omega (arith, e .below, z); enters = e .enters; label = e .label; stands = e .stands }))))
 
   pub entry-all : {v l i : ℕ} {r : Span} {s : Set} → 0 < l → RangeOf b v r → i ≡ r .to → Members (EntryIn l (r .from) i) s
@@ -93,12 +83,11 @@ module _ (b labels standing : List ℕ) where
   pub no-entry : {v l : ℕ} {s : Set} → l ≡ 0 → s ≡ emptySet → Members (EntryTargets b labels standing v l) s
   no-entry z e = record { exactly = λ w h. ((λ g. absurd (none w (rw e at g))), (λ g. absurd (omega (arith, z, g .0)))) }
 
-  -- the table of what stands has all standing transitions
-  pub table-any : {a : List ℕ} → WellFormed b → Table 128 (Kept b standing) a → (u w : ℕ) → Leads a u w ↔ Any (StandingOf b labels standing) u w
-  table-any W T u w = (
-    (λ e. let k = T .exactly u w (e .from) (e .has .below) .0 (e .has) in (getD labels (k .at) 0, record { at = k .at; within = k .within; leaves = k .leaves; enters = k .enters; holds = record { label = refl; stands = k .holds .is } })),
-    (λ (l, k). let p : u < 128 = omega (arith, k .leaves, from-low W (k .at) (k .within)) in let q : w < 128 = omega (arith, k .enters, to-low W (k .at) (k .within)) in
-        record { from = p; has = T .exactly u w p q .1 (record { at = k .at; within = k .within; leaves = k .leaves; enters = k .enters; holds = record { is = k .holds .stands } }) }),
+  -- the transitions whose byte is 1, whatever their label, are those that stand
+  pub kept-any : (u w : ℕ) → Kept b standing u w ↔ Any (StandingOf b labels standing) u w
+  kept-any u w = (
+    (λ k. (getD labels (k .at) 0, record { at = k .at; within = k .within; leaves = k .leaves; enters = k .enters; holds = record { label = refl; stands = k .holds .is } })),
+    (λ (l, k). record { at = k .at; within = k .within; leaves = k .leaves; enters = k .enters; holds = record { is = k .holds .stands } }),
   )
 
 -- the bytes of the transitions of level l at the indices from one up to another are cleared
@@ -143,3 +132,7 @@ clearing-all {b} {labels} {v} {l} {i} {r} {before} {after} R e C = record {
     outside : (k : ℕ) → fromOf b k ≢ v → getD after k 0 ≡ getD before k 0
     outside k p = by-cases (decLt k (r .from)) (C .under k)
         (λ f. by-cases (decLt k i) (λ g. absurd (p (at-mid (R .begins) (R .ends) k (omega (arith, f)) (omega (arith, g, e))))) (λ g. C .above k (omega (arith, g))))
+
+-- kept transitions of a body that passes lead to numbers of sets
+pub kept-low : {b keep : List ℕ} → checkOf b ≡ stage.Passed → (u w : ℕ) → Kept b keep u w → w < 128
+kept-low {b} c u w k = omega (arith, k .enters, to-low (well-formed b c) (k .at) (k .within))

@@ -2,5 +2,6 @@
 pub mod Removals
 pub mod Lists
 pub mod Loops
+pub mod Walking
 pub mod Entries
 pub mod Answers

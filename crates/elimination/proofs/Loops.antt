@@ -1,52 +1,16 @@
--- The chart of a loop by tables of sets: its body, the cycles aside of its start, and so the rule's answer.
-use Prim.Native.Nat.{ℕ, _<_}
-use mathlib.Core.Path.{_≡_, refl, subst}
+-- What is broken of the chart of a loop is the rule's answer.
+use Prim.Native.Nat.{ℕ}
+use mathlib.Core.Path.{_≡_, refl}
 use mathlib.Core.Logic.{_≢_, _⊎_, inl, inr, ⊎-elim, _↔_}
-use mathlib.Core.List.{List}
 use native.Mathlib.Omega.{arith}
-use Rattle.theory.specs.Paths.{Edges, Star, here, step, Plus, Endless, Returns, Avoid}
+use Rattle.theory.specs.Paths.{Edges, Star, Endless, Returns}
 use Rattle.theory.specs.Charts.{Steps, Formed, Any, Loop}
 use Rattle.theory.specs.LoopCharts.{Around, Reached, Stray}
 use Rattle.theory.specs.Removals.{Removes, done, refused-52}
-use Rattle.theory.proofs.Paths.{star-then, star-snoc, star-map, plus-map, cycle-endless, not-avoid}
-use Rattle.theory.proofs.Cycles.{endless-iff}
+use Rattle.theory.proofs.Paths.{star-map, plus-map}
 use Rattle.theory.proofs.Rounds.{round-L1, round-L2, round-L3}
 use Rattle.theory.proofs.Checks.{loop-not-end}
-use Rattle.bits.specs.declared.sets.Set.{Set}
-use Rattle.bits.specs.Sets.{Has, Members}
-use Rattle.chart.specs.Sets.{Leads, FromSet}
-use Rattle.chart.specs.Ways.{Closed, EndlessFrom}
 use Rattle.elimination.specs.Loops.{Broken, none, first, second, third}
-
--- what the table leads to is a number of sets
-leads-low : (a : List ℕ) (u w : ℕ) → Leads a u w → w < 128
-leads-low a u w e = e .has .below
-
--- the body of a loop at v, whose entries lead to the targets
-module _ {a : List ℕ} {v : ℕ} {targets body : Set} (M : Members (FromSet (Avoid v (Leads a)) targets) body) where
-  pub body-reached : (w : ℕ) → Has body w ↔ Reached v (Has targets) (Leads a) w
-  body-reached w = ((λ h. M .exactly w (h .below) .0 h), (λ (x, h, p). M .exactly w (low h p) .1 (x, h, p)))
-    where
-      low : {x y : ℕ} → Has targets x → Star (Avoid v (Leads a)) x y → y < 128
-      low h here = h .below
-      low h (step e p) = along e p
-        where
-          along : {x y z : ℕ} → Avoid v (Leads a) x y → Star (Avoid v (Leads a)) y z → z < 128
-          along e here = e .1 .has .below
-          along e (step f p) = along f p
-
-  pub body-closed : Closed (Avoid v (Leads a)) body
-  body-closed u w h e = let (x, g, p) = M .exactly u (h .below) .0 h in M .exactly w (e .1 .has .below) .1 (x, g, star-snoc p e)
-
-  -- a path goes on for ever in the body, never leaving v, exactly where a cycle stands aside of v
-  pub body-stray : EndlessFrom (Avoid v (Leads a)) body ↔ Stray v (Has targets) (Leads a)
-  body-stray = (to, λ (w, n, r, c). (w, body-reached w .1 r, cycle-endless c))
-    where
-      to : EndlessFrom (Avoid v (Leads a)) body → Stray v (Has targets) (Leads a)
-      to (w, h, p) =
-          let (x, q, c) = endless-iff {E = Avoid v (Leads a)} 128 (λ u y e. leads-low a u y (e .1)) w .0 p in
-          let (y, g, r) = body-reached w .0 h in
-          (x, (λ e. not-avoid (subst (λ (z : ℕ). Plus (Avoid v (Leads a)) z x) e c)), (y, g, star-then r q), c)
 
 -- the same entries and the same other transitions reach the same, and break the same
 module _ {v : ℕ} {Entry Entry′ : ℕ → Type 0} {Other Other′ : Edges} (entries : (w : ℕ) → Entry w ↔ Entry′ w)

@@ -1,23 +1,24 @@
 // Taking out a loop: the refusals 50 to 52, and the standing bytes after it.
+mod walk;
+
 use bits::Set;
 use bits::byte;
 use bits::highest_byte;
-use chart::kept_table;
 use chart::range_of;
-use chart::sets::closure;
-use chart::ways::endless;
 use report::Place;
 use report::Removed;
 use report::Stage;
+use walk::walk;
 ghost use mathlib.Core.Path.{_≡_};
 ghost use mathlib.Core.Bool.{true};
 ghost use mathlib.Core.List.{List};
-ghost use mathlib.Core.Logic.{_⊎_, _↔_};
-ghost use Prim.Native.Nat.{ℕ, _<_};
+ghost use mathlib.Core.Logic.{_↔_};
+ghost use Prim.Native.Nat.{ℕ, _≤_, _<_};
 ghost use lib.ListN.{length};
 ghost use Rattle.bits.specs.Sets.{Has, Members};
 ghost use Rattle.chart.specs.Bodies.{countOf};
-ghost use Rattle.chart.specs.Sets.{Leads};
+ghost use Rattle.chart.specs.Checks.{checkOf};
+ghost use Rattle.chart.specs.Steps.{Kept};
 ghost use Rattle.chart.specs.Standing.{TakenOut};
 ghost use Rattle.elimination.specs.Removals.{removalOf, leftOf};
 ghost use Rattle.elimination.specs.RemovalAnswers.{StandingFits, Fits};
@@ -28,17 +29,6 @@ fn standing_fits(standing: &[u8], n: usize) -> bool
     ensures { λ r. ⌜ ((b : List ℕ) → n ≡ countOf b → (r ≡ true) ↔ StandingFits b (now (standing .entry))) ⌝ }
 {
     (standing.len() == n) & (highest_byte(standing) <= 1)
-}
-
-// The set with w too where an entry of this level stands.
-fn with_entry(set: Set, w: usize, label: usize, level: usize, stands: usize) -> Set
-    requires { ⌜ w < 128 ⌝ }
-    ensures { λ r. ⌜ ((y : ℕ) → Has r y ↔ (Has set y ⊎ (((label ≡ level) × (stands ≡ 1)) × (y ≡ w)))) ⌝ }
-{
-    if (label == level) & (stands == 1) {
-        return set.with(w);
-    }
-    set
 }
 
 // What the standing entries of the loop (v, level) lead to; where there is none, nothing.
@@ -55,22 +45,23 @@ fn entry_targets(chart: &[u8], labels: &[u8], v: usize, level: usize, standing: 
     let mut i = range.from;
     while i < end {
         let w = byte(chart, 4 * i + 4 + 2);
-        set = with_entry(set, w, byte(labels, i), level, byte(standing, i));
+        set = set.with_if(w, (byte(labels, i) == level) & (byte(standing, i) == 1));
         i += 1;
     }
     set
 }
 
 // The first of L1, L2, L3 that the chart of a loop at v breaks, or 0: its entries lead to the targets, and all else goes
-// by the table.
-fn broken(next: &[u64; 256], v: usize, targets: Set) -> usize
-    requires { ⌜ (length (now next) ≡ 256) × (v < 128) ⌝ }
-    ensures { λ r. ⌜ Broken v (Has targets) (Leads (now (next .entry))) r ⌝ }
+// by what stands.
+fn broken(chart: &[u8], standing: &[u8], v: usize, targets: Set) -> usize
+    requires { ⌜ (checkOf (now chart) ≡ Stage.Passed) × (countOf (now chart) ≤ length (now standing)) × (v < 128) ⌝ }
+    ensures { λ r. ⌜ Broken v (Has targets) (Kept (now (chart .entry)) (now (standing .entry))) r ⌝ }
 {
-    let body = closure(next, v, targets);
-    if endless(next, v, body) {
+    let found = walk(chart, standing, v, targets);
+    if found.stray {
         return 2;
     }
+    let body = found.body;
     if !body.contains(v) {
         return 1;
     }
@@ -89,8 +80,7 @@ fn ruled(chart: &[u8], labels: &[u8], vertex: usize, level: usize, standing: &[u
     if targets.is_empty() {
         return Removed::NoEntry(vertex, level);
     }
-    let next = kept_table(chart, standing);
-    let r = broken(&next, vertex, targets);
+    let r = broken(chart, standing, vertex, targets);
     if r == 0 {
         return Removed::Done;
     }

@@ -51,8 +51,8 @@ byte-requires-2 c κs = let i = c .before .before .loop .inv in omega (arith, c 
 byte-requires-3 : tie.Need-byte-requires-3 Inv-loop μ-loop
 byte-requires-3 c κs = let i = c .before .before .before .loop .inv in omega (arith, c .before .before .loop-test .taken, i .1, i .0 .marked .long)
 
-with-entry-requires : tie.Need-with-entry-requires Inv-loop μ-loop
-with-entry-requires c κs = let l = c .before .before .before .before .loop in rw (c .before .before .byte .ensures .0) (to-low (l .inv .0 .formed) (l .i) (omega (arith, c .before .before .before .loop-test .taken, l .inv .1)))
+with-if-requires : tie.Need-with-if-requires Inv-loop μ-loop
+with-if-requires c κs = let l = c .before .before .before .before .loop in rw (c .before .before .byte .ensures .0) (to-low (l .inv .0 .formed) (l .i) (omega (arith, c .before .before .before .loop-test .taken, l .inv .1)))
 
 add-i : tie.Need-add-i Inv-loop μ-loop
 add-i c = search needs
@@ -64,7 +64,7 @@ loop-again : tie.Need-loop-again Inv-loop μ-loop
 loop-again c =
     let l = c .before .before .before .before .before .loop in
     let i = l .inv in
-    (i .0, i .1, omega (arith, i .2), omega (arith, c .before .before .before .before .loop-test .taken), entry-more _ _ _ (i .2) (i .4) (c .before .before .before .byte .ensures .0) (c .before .before .byte2 .ensures .0) (c .before .byte3 .ensures .0) (c .with-entry .ensures))
+    (i .0, i .1, omega (arith, i .2), omega (arith, c .before .before .before .before .loop-test .taken), entry-more _ _ _ (i .2) (i .4) (c .before .before .before .byte .ensures .0) (c .before .before .byte2 .ensures .0) (c .before .byte3 .ensures .0) (c .with-if .ensures))
 
 returns-2 : tie.Need-returns-2 Inv-loop μ-loop
 returns-2 c =
@@ -87,7 +87,7 @@ entry-targets-spec =
     byte-requires
     byte-requires-2
     byte-requires-3
-    with-entry-requires
+    with-if-requires
     add-i
     loop-less
     loop-again

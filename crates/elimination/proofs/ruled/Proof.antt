@@ -16,32 +16,22 @@ is-empty-requires c κs = search needs
 returns : tie.Need-returns
 returns c = none-stands (c .before .before .before .before .before .before .pre) (c .before .before .entry-targets .ensures) (c .before .is-empty .ensures .0 (c .if1 .taken))
 
-kept-table-requires : tie.Need-kept-table-requires
-kept-table-requires c κs = let F = c .before .before .before .before .before .before .pre in (passes _ (F .formed), omega (arith, F .marked .long))
-
 broken-requires : tie.Need-broken-requires
 broken-requires c κs =
-    let m = c .before .before .before .before in
-    (c .before .kept-table .ensures .long, start-low (m .before .before .before .before .pre) (m .entry-targets .ensures) (λ e. true≢false (sym (c .before .before .before .is-empty .ensures .1 e) ∙ c .before .before .if1 .left)))
+    let F = c .before .before .before .before .before .before .pre in
+    (passes _ (F .formed), omega (arith, F .marked .long), start-low F (c .before .before .entry-targets .ensures) (λ e. true≢false (sym (c .before .is-empty .ensures .1 e) ∙ c .if1 .left)))
 
 returns-2 : tie.Need-returns-2
 returns-2 c =
-    let m = c .before .before .before .before .before .before in
-    goes (m .before .before .before .before .pre) (m .entry-targets .ensures) (λ e. true≢false (sym (c .before .before .before .before .before .is-empty .ensures .1 e) ∙ c .before .before .before .before .if1 .left)) (c .before .before .before .kept-table .ensures) (c .before .broken .ensures) (c .if2 .taken)
+    let m = c .before .before .before .before in
+    goes (m .before .before .before .before .pre) (m .entry-targets .ensures) (λ e. true≢false (sym (c .before .before .before .is-empty .ensures .1 e) ∙ c .before .before .if1 .left)) (c .before .broken .ensures) (c .if2 .taken)
 
 returns-3 : tie.Need-returns-3
 returns-3 c =
-    let m = c .before .before .before .before .before .before in
-    stays (m .before .before .before .before .pre) (m .entry-targets .ensures) (λ e. true≢false (sym (c .before .before .before .before .before .is-empty .ensures .1 e) ∙ c .before .before .before .before .if1 .left)) (c .before .before .before .kept-table .ensures) (c .before .broken .ensures) (c .if2 .left)
+    let m = c .before .before .before .before in
+    stays (m .before .before .before .before .pre) (m .entry-targets .ensures) (λ e. true≢false (sym (c .before .before .before .is-empty .ensures .1 e) ∙ c .before .before .if1 .left)) (c .before .broken .ensures) (c .if2 .left)
 
 pub ruled-spec : {M : Type 1} → statement M
 ruled-spec =
     tie.close
-    (tie.spec
-    entry-targets-requires
-    is-empty-requires
-    returns
-    kept-table-requires
-    broken-requires
-    returns-2
-    returns-3)
+    (tie.spec entry-targets-requires is-empty-requires returns broken-requires returns-2 returns-3)
