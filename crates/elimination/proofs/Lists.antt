@@ -1,12 +1,12 @@
--- A list of removals over bytes, beside a chart and labels that pass: each answer is the plain set's, and after each call the
--- bytes stand for the set.
+-- A list of removals over bytes, beside a chart and labels that pass: each answer is the plain set's, and after each
+-- call the bytes stand for the set.
 use Prim.Native.Nat.{ℕ}
 use mathlib.Core.Path.{_≡_, refl, sym, _∙_, ap₂}
 use mathlib.Core.Logic.{_≢_}
 use mathlib.Core.List.{List, _∷_, map}
 use native.Mathlib.Omega.{arith}
 use lib.ListN.{length}
-use Rattle.theory.specs.Charts.{Formed, Loop}
+use Rattle.theory.specs.Charts.{Formed, Listed, Loop}
 use Rattle.theory.specs.Checks.{Passed}
 use Rattle.theory.specs.Standing.{Loops}
 use Rattle.theory.specs.Removals.{Answer, done, refused-51, refused-52, Plain, left-loops, PlainAll}
@@ -16,7 +16,7 @@ use Rattle.bits.specs.Bits.{Bytes}
 use Rattle.chart.specs.Bodies.{verticesOf, countOf, WellFormed}
 use Rattle.chart.specs.Steps.{StepsOf}
 use Rattle.chart.specs.Standing.{StandsFor}
-use Rattle.chart.proofs.Relations.{steps-formed}
+use Rattle.chart.proofs.Relations.{steps-formed, steps-listed}
 use Rattle.chart.proofs.Standing.{stands-agree, stands-same, taken-stands}
 use Rattle.elimination.specs.Removals.{removedAs, removalOf, leftOf, answersOf, leftAfter}
 use Rattle.elimination.specs.RemovalAnswers.{Fits}
@@ -30,11 +30,14 @@ pub record Passing (b labels : List ℕ) : Type 0 where
   pub passed : Passed (StepsOf b labels)
 
 module _ {b labels : List ℕ} (c : Passing b labels) where
+  pub formed : Formed (verticesOf b) (StepsOf b labels)
+  formed = steps-formed b labels (c .body)
+
+  pub listed : Listed 256 (StepsOf b labels)
+  listed = steps-listed b labels (c .bytes)
+
   fits : {standing : List ℕ} {X : Loops} → StandsFor b labels standing X → Fits b labels standing
   fits h = record { formed = c .body; each = c .each; marked = record { long = h .long; marks = h .marks } }
-
-  formed : Formed (verticesOf b) (StepsOf b labels)
-  formed = steps-formed b labels (c .body)
 
   -- ONE CALL, where the bytes stand for the loops of X
   module _ {standing : List ℕ} {X : Loops} (loops : (v l : ℕ) → X v l → Loop (StepsOf b labels) v l)

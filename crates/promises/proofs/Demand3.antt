@@ -7,7 +7,7 @@ use native.Mathlib.Decide.{ℕ-discrete}
 use native.Mathlib.Omega.{arith}
 use lib.ListN.{length, getD, length-replicate, getD-replicate, length-map}
 use borrow.Author.Tests.{eq-eqb, ne-eqb}
-use Rattle.theory.specs.Charts.{Formed, Listed, Loop}
+use Rattle.theory.specs.Charts.{Loop}
 use Rattle.theory.specs.Standing.{Loops, DecidedLoops}
 use Rattle.theory.specs.Orders.{Pair, Order}
 use Rattle.theory.proofs.Checks.{passed-iff-witness}
@@ -16,15 +16,15 @@ use Rattle.theory.proofs.RemovalTests.{all-decided, left-decided, plain-call, p
 use Rattle.theory.proofs.Orders.{order-plain, order-exists, no-endless}
 use Rattle.report.specs.declared.Verdict.the-variants.{Accepted}
 use Rattle.bits.specs.Bits.{Bytes}
-use Rattle.chart.specs.Bodies.{verticesOf, startOf, countOf}
+use Rattle.chart.specs.Bodies.{startOf, countOf}
 use Rattle.chart.specs.Steps.{StepsOf}
 use Rattle.chart.specs.Standing.{StandsFor}
 use Rattle.chart.proofs.Checks.{well-formed}
-use Rattle.chart.proofs.Relations.{steps-formed, steps-listed}
+use Rattle.chart.proofs.Relations.{steps-formed}
 use Rattle.chart.proofs.Standing.{stands-agree, all-stand, one-standing}
 use Rattle.witness.proofs.Labellings.{labelled-iff-witness}
 use Rattle.elimination.specs.Removals.{removedAs}
-use Rattle.elimination.proofs.Lists.{Passing, call-answers, call-stands, calls-agree}
+use Rattle.elimination.proofs.Lists.{Passing, formed, listed, call-answers, call-stands, calls-agree}
 use Rattle.verdict.specs.Verdicts.{chartIn, labelsIn, verdictOf}
 use Rattle.verdict.proofs.Verdicts.{accepted-iff}
 use Rattle.promises.specs.Demand1.{stepsIn}
@@ -56,14 +56,8 @@ branches-stand b labels {Y} each none = record {
 
 -- BESIDE A CHART AND LABELS THAT PASS
 module _ {b labels : List ℕ} (c : Passing b labels) where
-  formed : Formed (verticesOf b) (StepsOf b labels)
-  formed = steps-formed b labels (c .body)
-
-  listed : Listed 256 (StepsOf b labels)
-  listed = steps-listed b labels (c .bytes)
-
   all-loops : DecidedLoops (StepsOf b labels) (Loop (StepsOf b labels))
-  all-loops = all-decided formed listed
+  all-loops = all-decided (formed c) (listed c)
 
   at-first : StandsFor b labels (allStanding b) (Loop (StepsOf b labels))
   at-first = all-stand (length-replicate (countOf b) 1) (λ i h. getD-replicate (countOf b) i 1 0 h)
@@ -72,14 +66,14 @@ module _ {b labels : List ℕ} (c : Passing b labels) where
       → (calls : List Pair) → EachRemoval b labels standing X calls
   each-from k h [] = ended h
   each-from k h ((v, l) ∷ calls) =
-      let (a, p) = plain-call formed listed k v l in
+      let (a, p) = plain-call (formed c) (listed c) k v l in
       call h (call-answers c (k .loops) h v l p) (plain-done p)
       (each-from (left-decided v l a k) (call-stands c (k .loops) h v l a p) calls)
 
   against : (calls : List Pair) → AgainstPlainSet b labels calls
   against calls = record {
     same = λ ys Y p. let (e, s) = calls-agree c (λ v l o. o) at-first p in record { answers = e; stands = s };
-    answered = plain-answers formed listed all-loops calls;
+    answered = plain-answers (formed c) (listed c) all-loops calls;
   }
 
   runs-through : (xs : List Pair) → Order (StepsOf b labels) xs → RunsThrough b labels xs
@@ -89,7 +83,7 @@ module _ {b labels : List ℕ} (c : Passing b labels) where
       record {
         no-refusal = e ∙ map-map removedAs _ xs;
         branches = one-standing s (branches-stand b labels (c .each) none);
-        no-endless = no-endless formed (c .passed) (stands-agree s) none;
+        no-endless = no-endless (formed c) (c .passed) (stands-agree s) none;
       }
 
 -- OF ANY ACCEPTED FILE
