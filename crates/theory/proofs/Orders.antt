@@ -75,6 +75,20 @@ module _ {size : ℕ} {S : Steps} (formed : Formed size S) (passed : Passed S) w
       let (Q, q, g) = rules-of (λ u m x. left-loops-are formed passed loops agree v l a u m (stay u m .0 x)) here ps in
       (Q, RemovesAll.call (rule-of formed passed loops agree v l p) (λ u m w. Iff·rfl) q, g)
 
+  -- where no loop remains exactly the branches stand, and no vertex has an infinite path
+  module _ {Y : Loops} {Q : Steps} (agree : Agree S Y Q) (none-left : (v l : ℕ) → ¬ Y v l) where
+    pub only-branches : (u l w : ℕ) → Q u l w ↔ (S u l w × (l ≡ 0))
+    only-branches u l w = (
+      (λ e. let (s, c) = (agree u l w) .0 e in (s, ⊎-elim (λ z. z) (λ y. absurd (none-left u l y)) c)),
+      (λ (s, z). (agree u l w) .1 (s, inl z)),
+    )
+
+    branch : (u w : ℕ) → Any Q u w → Branch S u w
+    branch u w (l, e) = let (s, z) = (only-branches u l w) .0 e in rw z at s
+
+    pub no-endless : (v : ℕ) → ¬ Endless (Any Q) v
+    no-endless v p = passed-no-endless formed passed v (endless-map branch p)
+
   module _ (xs : List Pair) (order : Order S xs) where
     -- an order runs with no refusal
     pub order-runs : (Q : Steps) × RemovesAll S xs (all-done xs) Q
@@ -82,22 +96,10 @@ module _ {size : ℕ} {S : Steps} (formed : Formed size S) (passed : Passed S) w
 
     -- whatever way it is run: no refusal, exactly the branches are left, and no vertex has an infinite path
     pub order-leaves : {ys : List Answer} {Q : Steps} → RemovesAll S xs ys Q → (ys ≡ all-done xs) × ((u l w : ℕ) → Q u l w ↔ (S u l w × (l ≡ 0))) × ((v : ℕ) → ¬ Endless (Any Q) v)
-    order-leaves {ys} {Q} r = go (order-plain xs order)
-      where
-        go : (Y : Loops) × PlainAll S (Loop S) xs (all-done xs) Y × ((v l : ℕ) → ¬ Y v l) → (ys ≡ all-done xs) × ((u l w : ℕ) → Q u l w ↔ (S u l w × (l ≡ 0))) × ((v : ℕ) → ¬ Endless (Any Q) v)
-        go (Y, p, none-left) = (both .0, left, λ v q. passed-no-endless formed passed v (endless-map branch q))
-          where
-            both : (ys ≡ all-done xs) × Agree S Y Q
-            both = removals-agree formed passed (λ v l o. o) (agree-at-first S) r p
-
-            left : (u l w : ℕ) → Q u l w ↔ (S u l w × (l ≡ 0))
-            left u l w = (
-              (λ e. let (s, c) = (both .1 u l w) .0 e in (s, ⊎-elim (λ z. z) (λ y. absurd (none-left u l y)) c)),
-              (λ (s, z). (both .1 u l w) .1 (s, inl z)),
-            )
-
-            branch : (u w : ℕ) → Any Q u w → Branch S u w
-            branch u w (l, e) = let (s, z) = (left u l w) .0 e in rw z at s
+    order-leaves r =
+        let (Y, p, none-left) = order-plain xs order in
+        let (e, agree) = removals-agree formed passed (λ v l o. o) (agree-at-first S) r p in
+        (e, only-branches agree none-left, no-endless agree none-left)
 
 -- AN ORDER EXISTS: by level, and by vertex in each level
 swap : Pair → Pair
