@@ -16,13 +16,13 @@ use Rattle.bits.proofs.Members.{has?}
 use Rattle.chart.specs.Bodies.{verticesOf}
 use Rattle.chart.specs.Steps.{Kept, StandingOf}
 use Rattle.chart.specs.Standing.{TakenOut}
+use Rattle.chart.proofs.Relations.{kept-standing}
 use Rattle.chart.proofs.Standing.{one-taken}
 use Rattle.elimination.specs.Removals.{removalOf, leftOf}
 use Rattle.elimination.specs.RemovalAnswers.{Fits}
 use Rattle.elimination.specs.Loops.{EntryTargets, Broken, Ruled, isDone}
 use Rattle.elimination.proofs.Removals.{standing-formed, done-fits, done-leaves, left-kept}
 use Rattle.elimination.proofs.Loops.{broken-same, nothing-broken, first-broken}
-use Rattle.elimination.proofs.Entries.{kept-any}
 
 module _ {b labels standing : List ℕ} {v l : ℕ} (F : Fits b labels standing) {targets : Set}
     (M : Members (EntryTargets b labels standing v l) targets) where
@@ -52,7 +52,7 @@ module _ {b labels standing : List ℕ} {v l : ℕ} (F : Fits b labels standing)
     entries w = ((λ h. M .exactly w (h .below) .0 h .1), (λ s. M .exactly w (target-low w s) .1 (some-stands n .0, s)))
 
     standing-broken : Broken v (StandingOf b labels standing v l) (Any (StandingOf b labels standing)) r
-    standing-broken = broken-same entries (kept-any b labels standing) B
+    standing-broken = broken-same entries (kept-standing b labels standing) B
 
     pub goes : r ≡ 0 → Ruled b labels standing v l Done
     goes e = (done, refl, nothing-broken stands (some-stands n) e standing-broken)

@@ -1,6 +1,6 @@
 -- The tests of a removal say what document 01 says, both ways; and what a call leaves of the standing bytes.
 use Prim.Native.Nat.{ℕ, zero, suc, _+_, _<_}
-use mathlib.Core.Path.{_≡_, refl, sym, _∙_, ap, subst}
+use mathlib.Core.Path.{_≡_, refl, _∙_, ap, subst}
 use mathlib.Core.Logic.{_≢_, ⊎-elim, _↔_, by-cases}
 use mathlib.Core.Bool.{Bool, cond, _&&_}
 use mathlib.Core.List.{List, [], _∷_}
@@ -9,8 +9,7 @@ use native.Mathlib.Omega.{arith}
 use lib.Dec.{eqb}
 use lib.ListN.{length, getD}
 use borrow.Author.Tests.{eq-eqb, ne-eqb}
-use Rattle.theory.specs.Charts.{Formed, Loop}
-use Rattle.theory.specs.LoopCharts.{Around, LoopChart}
+use Rattle.theory.specs.Charts.{Formed}
 use Rattle.theory.specs.Removals.{Answer, Removes}
 use Rattle.theory.specs.Tests.{Decides}
 use Rattle.theory.specs.RemovalTests.{ruleAnswer}
@@ -131,19 +130,6 @@ module _ (b labels : List ℕ) (v l : ℕ) (standing : List ℕ) where
       (λ c h. let r = removal-long c h in let z : _≡_ {A = ℕ} 0 1 = cc in absurd (omega arith))
       (λ c h n. let r = removal-standing c h n in let z : _≡_ {A = ℕ} 0 1 = cc in absurd (omega arith))
       (λ f. f)
-
-  -- it is done only where the loop stands and is a loop chart
-  pub done-goes : Bytes labels → removalOf b labels v l standing ≡ Done
-      → Loop (StandingOf b labels standing) v l × LoopChart (Around (StandingOf b labels standing) v l) v
-  done-goes B e = go (rule-says B (done-fits e .formed)) (sym (removal-ruled B (done-fits e) (rule-says B (done-fits e .formed))) ∙ e)
-    where
-      go : {a : Answer} → Removes (StandingOf b labels standing) v l a → removedAs a ≡ Done
-          → Loop (StandingOf b labels standing) v l × LoopChart (Around (StandingOf b labels standing) v l) v
-      go (Removes.goes o c) q = (o, c)
-      go (Removes.absent h) q = let z : _≡_ {A = ℕ} 0 1 = cc in absurd (omega arith)
-      go (Removes.breaks-L1 o h) q = let z : _≡_ {A = ℕ} 0 1 = cc in absurd (omega arith)
-      go (Removes.breaks-L2 o p h) q = let z : _≡_ {A = ℕ} 0 1 = cc in absurd (omega arith)
-      go (Removes.breaks-L3 o p h s) q = let z : _≡_ {A = ℕ} 0 1 = cc in absurd (omega arith)
 
   -- THE ANSWER IS a exactly where document 01 says so
   module _ (B : Bytes labels) where

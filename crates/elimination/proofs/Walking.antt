@@ -18,7 +18,6 @@ use Rattle.bits.specs.Sets.{Has, emptySet, Members, Union, Difference, sizeOf}
 use Rattle.bits.specs.Tables.{rowOf, HasRow, putRow}
 use Rattle.bits.proofs.Members.{none, has?, size-lt}
 use Rattle.bits.proofs.Gains.{put-long, put-here, put-other}
-use Rattle.elimination.specs.declared.walk.Found.{Found}
 use Rattle.elimination.specs.Walks.{RowsOf, RowRead, Onward, FoundIn}
 
 -- A ROW IS READ once

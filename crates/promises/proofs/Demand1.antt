@@ -26,7 +26,6 @@ use Rattle.report.specs.declared.Verdict.{Verdict}
 use Rattle.report.specs.declared.Verdict.the-variants.{Accepted, Refused}
 use Rattle.report.specs.declared.Written.the-variants as written
 use Rattle.bits.specs.Bits.{Bytes}
-use Rattle.chart.specs.Bodies.{startOf}
 use Rattle.chart.specs.Checks as chart
 use Rattle.chart.specs.Steps.{StandingOf}
 use Rattle.chart.proofs.Checks.{check-passed, check-20, check-21}
@@ -51,7 +50,7 @@ use Rattle.verdict.specs.Verdicts.{nodesIn, chartIn, labelsIn, relationIn, verd
 use Rattle.verdict.proofs.Files.{records-checked, checked-records, records-iff}
 use Rattle.verdict.proofs.Verdicts.{refused-iff}
 use Rattle.promises.specs.Accepted.{Holds}
-use Rattle.promises.specs.Demand1.{FirstMalformed, FirstNotUsedOnce, NodesPass, ChartPasses, OneLabelEach, LabelsPass, expressionIn, Sentence, SentenceFor, says-0, says-1, says-2, says-3, says-4, says-10, says-11, says-12, says-20, says-21, says-30, says-31, says-32, says-33, says-34, says-35, says-40, says-41, says-42, says-43, says-44, says-45, ChartSentence, ChartSentenceFor, written-0, written-10, written-11, written-12, written-54, LoopStands, RemovalSentence, RemovalSentenceFor, removed-0, removed-20, removed-21, removed-30, removed-50, removed-51, removed-52-1, removed-52-2, removed-52-3, RemovalLeaves}
+use Rattle.promises.specs.Demand1.{FirstMalformed, FirstNotUsedOnce, NodesPass, ChartPasses, LabelsPass, expressionIn, Sentence, SentenceFor, says-0, says-1, says-2, says-3, says-4, says-10, says-11, says-12, says-20, says-21, says-30, says-31, says-32, says-33, says-34, says-35, says-40, says-41, says-42, says-43, says-44, says-45, ChartSentence, ChartSentenceFor, written-0, written-10, written-11, written-12, written-54, LoopStands, RemovalSentence, RemovalSentenceFor, removed-0, removed-20, removed-21, removed-30, removed-50, removed-51, removed-52-1, removed-52-2, removed-52-3, RemovalLeaves}
 use Rattle.promises.proofs.Accepted.{part-bytes, accepted-iff-holds}
 
 -- THE NODES

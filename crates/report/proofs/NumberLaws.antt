@@ -123,7 +123,7 @@ one-written (written.Length n) (written.Refused y) e = absurd (omega (arith, num
 one-written (written.Refused x) (written.Length m) e = absurd (omega (arith, numbered x, ap (λ (k : Numbers). k .n) e))
 one-written (written.Refused x) (written.Refused y) e = ap written.Refused (one-refusal x y e)
 
--- and no two answers of a removal: the one that has these numbers
+-- and no two answers of a removal; the one that has these numbers
 removedAt : Numbers → Removed
 removedAt k =
     cond (eqb (k .n) 0) removed.Done

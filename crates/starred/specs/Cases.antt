@@ -1,7 +1,7 @@
 -- The table of the starred cases: what is asked of the definitions that the contracts cite, and what document 01 says.
 use mathlib.Core.Bool.{Bool, true, false, _&&_}
 use mathlib.Core.List.{List, [], _∷_, _++_}
-use Prim.Native.Nat.{ℕ, suc}
+use Prim.Native.Nat.{ℕ}
 use lib.Dec.{eqb}
 use lib.ListN.{length, replicate}
 use Rattle.report.specs.declared.Numbers.{Numbers}

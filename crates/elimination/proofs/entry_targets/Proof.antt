@@ -1,20 +1,20 @@
-use Rattle.chart.proofs.Order.{low-high}
 use borrow.Author.Needs.{needs}
-use mathlib.Core.Path.{_≡_, refl}
-use Prim.Native.Nat.{_-_, _≤_, _<_}
+use mathlib.Core.Path.{sym}
+use Prim.Native.Nat.{_-_, _≤_}
 use native.Mathlib.Omega.{arith}
-use lib.ListN.{length}
 use Rattle.bits.specs.Sets.{Members}
 use Rattle.chart.specs.Bodies.{countOf}
 use Rattle.chart.proofs.Checks.{passes}
-use Rattle.chart.proofs.Kept.{to-low}
+use Rattle.chart.specs.Steps.{Stands}
+use Rattle.chart.proofs.Order.{low-high, at-mid}
+use Rattle.chart.proofs.Rows.{ViaBelow, via-none, via-more, via-all, decides-stands, to-low}
 use Rattle.elimination.specs.RemovalAnswers.{Fits}
-use Rattle.elimination.proofs.Entries.{EntryIn, entry-none, entry-more, entry-all, no-entry}
+use Rattle.elimination.proofs.Entries.{entry-all, no-entry}
 use Rattle.elimination.proofs.entry_targets.Statement.{statement}
 use Rattle.elimination.proofs.entry_targets.Tie as tie
 
 abbrev Inv-loop : tie.InvT-loop
-Inv-loop chart labels v level standing set₀ end i₀ set i = Fits chart labels standing × (end ≤ countOf chart) × (i₀ ≤ i) × (i ≤ end) × Members (EntryIn chart labels standing level i₀ i) set
+Inv-loop chart labels v level standing set₀ end i₀ set i = Fits chart labels standing × (end ≤ countOf chart) × (i₀ ≤ i) × (i ≤ end) × Members (ViaBelow chart (Stands labels standing level) v i) set
 
 abbrev μ-loop : tie.MeasureT-loop
 μ-loop chart labels v level standing set₀ end i₀ set i = end - i
@@ -23,7 +23,7 @@ empty-requires : tie.Need-empty-requires Inv-loop μ-loop
 empty-requires c κs = search needs
 
 returns : tie.Need-returns Inv-loop μ-loop
-returns c = no-entry _ _ _ (c .if1 .taken) (c .before .empty .ensures)
+returns c = no-entry (c .if1 .taken) (c .before .empty .ensures)
 
 range-of-requires : tie.Need-range-of-requires Inv-loop μ-loop
 range-of-requires c κs = passes _ (c .before .before .before .before .before .pre .formed)
@@ -31,7 +31,7 @@ range-of-requires c κs = passes _ (c .before .before .before .before .before .p
 loop-holds : tie.Need-loop-holds Inv-loop μ-loop
 loop-holds c =
     let R = c .range-of .ensures in
-    (c .before .before .before .before .before .before .pre, R .ends .within, omega arith, low-high (R .begins) (R .ends), entry-none _ _ _ (c .before .before .empty .ensures))
+    (c .before .before .before .before .before .before .pre, R .ends .within, omega arith, low-high (R .begins) (R .ends), via-none (R .begins) (c .before .before .empty .ensures))
 
 mul-byte : tie.Need-mul-byte Inv-loop μ-loop
 mul-byte c = search needs
@@ -64,12 +64,13 @@ loop-again : tie.Need-loop-again Inv-loop μ-loop
 loop-again c =
     let l = c .before .before .before .before .before .loop in
     let i = l .inv in
-    (i .0, i .1, omega (arith, i .2), omega (arith, c .before .before .before .before .loop-test .taken), entry-more _ _ _ (i .2) (i .4) (c .before .before .before .byte .ensures .0) (c .before .before .byte2 .ensures .0) (c .before .byte3 .ensures .0) (c .with-if .ensures))
+    let t = c .before .before .before .before .loop-test .taken in
+    let R = c .before .before .before .before .before .before .range-of .ensures in
+    (i .0, i .1, omega (arith, i .2), omega (arith, t), via-more (omega (arith, t, i .1)) (at-mid (R .begins) (R .ends) (l .i) (i .2) t) (sym (c .before .before .before .byte .ensures .0)) (decides-stands _ (c .before .before .byte2 .ensures .0) (c .before .byte3 .ensures .0)) (c .with-if .ensures) (i .4))
 
 returns-2 : tie.Need-returns-2 Inv-loop μ-loop
 returns-2 c =
-    let i = c .before .loop .inv in
-    entry-all _ _ _ (omega (arith, c .before .before .before .if1 .left)) (c .before .before .range-of .ensures) (omega (arith, c .loop-test .left, i .3)) (i .4)
+    entry-all (omega (arith, c .before .before .before .if1 .left)) (via-all (c .before .before .range-of .ensures .ends) (c .loop-test .left) (c .before .loop .inv .4))
 
 pub entry-targets-spec : {M : Type 1} → statement M
 entry-targets-spec =
