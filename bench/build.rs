@@ -6,4 +6,6 @@ fn main() {
     let folder = format!("{package}/../target/staticlib");
     println!("cargo:rerun-if-changed={folder}/libsequence.a");
     println!("cargo:rustc-link-search=native={folder}");
+    println!("cargo:rustc-check-cfg=cfg(library)");
+    println!("cargo:rustc-cfg=library");
 }

@@ -1,5 +1,5 @@
-/* How many bytes of stack the check uses: each file named is checked on a thread of 128 KiB whose stack was filled with
- * a pattern. */
+/* stack check FILE.. or stack removal FILE..: how many bytes of stack the call uses. The call on each file named is made
+ * on a thread of 128 KiB whose stack was filled with a pattern. */
 #include "sequence.h"
 #include <pthread.h>
 #include <stdio.h>
@@ -11,14 +11,28 @@ enum { ROOM = 128 * 1024, LONGEST = 65536, PATTERN = 0xA5 };
 static unsigned char file[LONGEST];
 static size_t length;
 
-static void *run(void *nothing) {
+static void *check(void *nothing) {
     seq_check(file, length);
     return nothing;
 }
 
+/* The file has the vertex and the level, then the chart, the labels and the standing bytes. */
+static void *removal(void *nothing) {
+    unsigned char *chart = file + 2;
+    size_t count = chart[2] + 256u * chart[3];
+    unsigned char *labels = chart + 4 + 4 * count;
+    seq_remove(chart, 4 + 4 * count, labels, count, file[0], file[1], labels + count, count);
+    return nothing;
+}
+
 int main(int count, char **names) {
+    if (count < 3) {
+        fprintf(stderr, "stack check|removal FILE..\n");
+        return 2;
+    }
+    void *(*call)(void *) = strcmp(names[1], "removal") == 0 ? removal : check;
     size_t most = 0;
-    for (int i = 1; i < count; i++) {
+    for (int i = 2; i < count; i++) {
         FILE *in = fopen(names[i], "rb");
         unsigned char *stack = aligned_alloc(4096, ROOM);
         pthread_attr_t attributes;
@@ -31,7 +45,7 @@ int main(int count, char **names) {
         fclose(in);
         memset(stack, PATTERN, ROOM);
         if (pthread_attr_init(&attributes) || pthread_attr_setstack(&attributes, stack, ROOM)
-            || pthread_create(&thread, &attributes, run, NULL) || pthread_join(thread, NULL)) {
+            || pthread_create(&thread, &attributes, call, NULL) || pthread_join(thread, NULL)) {
             fprintf(stderr, "%s: no thread\n", names[i]);
             return 1;
         }
@@ -43,6 +57,6 @@ int main(int count, char **names) {
         pthread_attr_destroy(&attributes);
         free(stack);
     }
-    printf("at most %zu bytes of stack, the thread's own among them\n", most);
+    printf("%s: at most %zu bytes of stack, the thread's own among them\n", names[1], most);
     return 0;
 }

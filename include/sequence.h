@@ -3,7 +3,7 @@
  * A slice is two arguments, a pointer and then its length in bytes; NULL with length 0 is an empty
  * slice. The slices of one call must not overlap. Whatever the bytes are, a call answers; it keeps no
  * pointer and no state, allocates nothing, and needs memcpy and memset and less than 128 KiB of
- * stack. */
+ * stack, seq_remove less than 32 KiB. */
 #ifndef SEQUENCE_H
 #define SEQUENCE_H
 
@@ -42,6 +42,20 @@ seq_numbers seq_check(const uint8_t *file, size_t file_len);
  * out is changed.
  * The nodes are only read. SEQ_LONGEST_CHART bytes are enough for every expression. */
 seq_numbers seq_write_chart(const uint8_t *nodes, size_t nodes_len, uint8_t *out, size_t out_len);
+
+/* Takes out a loop: the transitions that leave vertex with the label level, its entries. chart and
+ * labels are the bodies of records of kinds 2 and 3. standing has a byte for each transition, 1 where
+ * it stands and 0 where it is gone: at first all are 1, and each call is lent what the one before left.
+ *
+ * Done: n 0, p, q and r 0. The bytes of the loop's entries are 0, all others of standing are kept.
+ * Refused: n 20 or 21 for the chart, n 30 for the labels; n 50 where standing has another length or a
+ * byte above 1; n 51 where no entry of the loop stands; n 52 where what stands of it is no loop. p is
+ * the vertex and q the level of 51 and 52, whatever numbers they are. r of 52 is 1 where nothing goes
+ * round, 2 where something goes round without coming back to vertex, 3 where the end is inside; the
+ * first of these that holds. No byte of standing is changed.
+ * The chart and the labels are only read. */
+seq_numbers seq_remove(const uint8_t *chart, size_t chart_len, const uint8_t *labels, size_t labels_len,
+                       size_t vertex, size_t level, uint8_t *standing, size_t standing_len);
 
 #ifdef __cplusplus
 }

@@ -1,5 +1,5 @@
-//! Finds the proved library, libsequence.a, for tests/library.rs and tests/refusals.rs. Where it isn't there, these
-//! fail and say so; all else builds without it.
+//! Finds the proved library, libsequence.a, for the tests that have `mod proved`. Where it isn't there, these fail
+//! and say so; all else builds without it.
 use std::env;
 use std::path::Path;
 

@@ -1,29 +1,107 @@
-//! The proved check against the second checker's fast one, on the same files in the same run.
+//! The proved check and removal against the second checker's fast ones, on the same bytes in the same run.
 //!
 //! * `bench times` prints a row for each kind of file: microseconds a check of both, and their ratio
-//!   over several runs.
+//!   over several runs; `bench removals` such a row for each removal.
 //! * `bench stages` prints such a row for the files of the mixed corpus that have the same number in
 //!   their answer.
-//! * `bench calls WHO FILE COUNT` checks a file COUNT times, for callgrind to count.
-//! * `bench write FOLDER` writes the named files.
-use oracle::gen::{self, worst, Yard};
+//! * `bench calls WHO FILE COUNT` makes the call of a file COUNT times, for callgrind to count.
+//! * `bench write FOLDER` writes the named files and removals.
+use oracle::gen::worst::{self, Removal};
+use oracle::gen::{self, Yard};
 use oracle::{fast, Answer};
 use std::collections::BTreeMap;
 use std::hint::black_box;
 use std::time::Instant;
 use std::{env, fs, process};
 
-#[link(name = "sequence", kind = "static")]
-extern "C" {
-    fn seq_check(file: *const u8, file_len: usize) -> Answer;
+#[path = "../../oracle/tests/proved/mod.rs"]
+mod proved;
+
+/// What both sides are called with.
+enum Call {
+    Check(Vec<u8>),
+    Remove {
+        removal: Removal,
+        /// Those that stand, which a removal that is done clears.
+        entries: Vec<usize>,
+    },
 }
 
-fn proved(file: &[u8]) -> Answer {
-    // SAFETY: the call reads these bytes and keeps no pointer.
-    unsafe { seq_check(file.as_ptr(), file.len()) }
+impl Call {
+    fn remove(removal: Removal) -> Call {
+        let stands = |index: &usize| removal.standing[*index] == 1;
+        let entries = removal.entries().into_iter().filter(stands).collect();
+        Call::Remove { removal, entries }
+    }
+
+    /// The bytes of a file; those of a removal are its vertex, its level, and its chart, labels and
+    /// standing bytes.
+    fn bytes(&self) -> Vec<u8> {
+        match self {
+            Call::Check(file) => file.clone(),
+            Call::Remove { removal, .. } => {
+                let pair = [removal.vertex, removal.level];
+                [
+                    &pair,
+                    &removal.chart[..],
+                    &removal.labels,
+                    &removal.standing,
+                ]
+                .concat()
+            }
+        }
+    }
+
+    fn read(path: &str) -> Call {
+        let file = fs::read(path).expect("a file");
+        if !path.ends_with(".removal") {
+            return Call::Check(file);
+        }
+        let count = usize::from(u16::from_le_bytes([file[4], file[5]]));
+        let (chart, marks) = file[2..].split_at(4 + 4 * count);
+        let (labels, standing) = marks.split_at(count);
+        Call::remove(Removal {
+            chart: chart.to_vec(),
+            labels: labels.to_vec(),
+            vertex: file[0],
+            level: file[1],
+            standing: standing.to_vec(),
+        })
+    }
 }
 
-type Check = fn(&[u8]) -> Answer;
+/// One of the two that are measured.
+#[derive(Clone, Copy)]
+struct Side {
+    check: fn(&[u8]) -> Answer,
+    remove: fn(&[u8], &[u8], u64, u64, &mut [u8]) -> Answer,
+}
+
+const PROVED: Side = Side {
+    check: proved::check,
+    remove: proved::remove,
+};
+const RUST: Side = Side {
+    check: fast::check,
+    remove: fast::remove,
+};
+
+impl Side {
+    /// Before a removal its entries are set to 1 again.
+    fn answer(self, call: &mut Call) -> Answer {
+        match call {
+            Call::Check(file) => (self.check)(file),
+            Call::Remove { removal, entries } => {
+                for &index in entries.iter() {
+                    removal.standing[index] = 1;
+                }
+                let (vertex, level) = (removal.vertex.into(), removal.level.into());
+                let standing = &mut removal.standing;
+                (self.remove)(&removal.chart, &removal.labels, vertex, level, standing)
+            }
+        }
+    }
+}
 
 const RUNS: usize = 31;
 /// Seconds that one side is timed for in one run, at least.
@@ -65,9 +143,9 @@ fn with_empty_row(yard: Yard) -> Yard {
     latest
 }
 
-/// Files at document 01's limits: accepted ones, each hard on one stage, and some that are refused
-/// at the end of such a stage.
-fn named() -> Vec<(String, Vec<u8>)> {
+/// Files at document 01's limits: accepted ones, each hard on one stage of the check, and some that
+/// are refused at the end of such a stage.
+fn named() -> Vec<(String, Call)> {
     let mut yards = worst::all();
     yards.push((
         "refused 32",
@@ -84,94 +162,117 @@ fn named() -> Vec<(String, Vec<u8>)> {
     }
     yards.push(("refused 44", with_empty_row(worst::full_relation())));
     yards.push(("refused 45", with_last_action(worst::full_relation(), 2)));
-    yards
-        .into_iter()
-        .map(|(name, yard)| (name.replace(' ', "-"), yard.file()))
-        .collect()
+    let check = |(name, yard): (&str, Yard)| (name.replace(' ', "-"), Call::Check(yard.file()));
+    yards.into_iter().map(check).collect()
 }
 
-/// Seconds for one round over the files.
-fn seconds(check: Check, files: &[Vec<u8>], rounds: u32) -> f64 {
+fn removals() -> Vec<(String, Call)> {
+    let remove = |(name, removal): (&str, _)| (name.replace(' ', "-"), Call::remove(removal));
+    worst::removals().into_iter().map(remove).collect()
+}
+
+/// Seconds for one round over the calls.
+fn seconds(side: Side, calls: &mut [Call], rounds: u32) -> f64 {
     let start = Instant::now();
     for _ in 0..rounds {
-        for file in files {
-            black_box(check(black_box(file)));
+        for call in &mut *calls {
+            black_box(side.answer(black_box(call)));
         }
     }
     start.elapsed().as_secs_f64() / f64::from(rounds)
 }
 
-fn rounds(check: Check, files: &[Vec<u8>]) -> u32 {
-    let once = seconds(check, files, 1).max(1e-7);
+fn rounds(side: Side, calls: &mut [Call]) -> u32 {
+    let once = seconds(side, calls, 1).max(1e-7);
     (SPAN / once).ceil() as u32
 }
 
-fn row(name: &str, files: &[Vec<u8>]) {
-    for file in files {
-        assert!(
-            proved(file) == fast::check(file),
-            "{name}: the answers differ"
-        );
+/// Both sides have to answer the same and to leave the same bytes.
+fn compare(name: &str, call: &mut Call) {
+    let ours = (PROVED.answer(call), call.bytes());
+    let theirs = (RUST.answer(call), call.bytes());
+    assert!(ours == theirs, "{name}: the answers differ");
+}
+
+fn row(name: &str, calls: &mut [Call]) {
+    for call in &mut *calls {
+        compare(name, call);
     }
-    let (ours, theirs) = (rounds(proved, files), rounds(fast::check, files));
+    let (ours, theirs) = (rounds(PROVED, calls), rounds(RUST, calls));
     let mut ratios = Vec::new();
     let (mut best_ours, mut best_theirs) = (f64::MAX, f64::MAX);
     for _ in 0..RUNS {
-        let a = seconds(proved, files, ours);
-        let b = seconds(fast::check, files, theirs);
+        let a = seconds(PROVED, calls, ours);
+        let b = seconds(RUST, calls, theirs);
         best_ours = best_ours.min(a);
         best_theirs = best_theirs.min(b);
         ratios.push(a / b);
     }
     ratios.sort_by(f64::total_cmp);
-    let a_file = 1e6 / files.len() as f64;
+    let a_call = 1e6 / calls.len() as f64;
     println!(
         "| {name} | {:.2} | {:.2} | {:.2} | {:.2} to {:.2} |",
-        best_ours * a_file,
-        best_theirs * a_file,
+        best_ours * a_call,
+        best_theirs * a_call,
         ratios[RUNS / 2],
         ratios[0],
         ratios[RUNS - 1],
     );
 }
 
-fn head() {
-    println!("| files | proved, µs | Rust, µs | ratio, median of {RUNS} | spread |");
+fn head(what: &str) {
+    println!("| {what} | proved, µs | Rust, µs | ratio, median of {RUNS} | spread |");
     println!("|---|---|---|---|---|");
 }
 
-fn mixed() -> Vec<Vec<u8>> {
-    (0..MIXED).map(gen::file).collect()
+fn rows(calls: Vec<(String, Call)>) {
+    for (name, call) in calls {
+        row(&name, &mut [call]);
+    }
+}
+
+fn mixed() -> impl Iterator<Item = Vec<u8>> {
+    (0..MIXED).map(gen::file)
 }
 
 fn stages() {
-    head();
-    let mut by_number: BTreeMap<u64, Vec<Vec<u8>>> = BTreeMap::new();
+    head("files");
+    let mut by_number: BTreeMap<u64, Vec<Call>> = BTreeMap::new();
     for file in mixed() {
         let number = fast::check(&file).n;
-        by_number.entry(number).or_default().push(file);
+        by_number.entry(number).or_default().push(Call::Check(file));
     }
-    for (number, files) in by_number {
-        row(&number.to_string(), &files);
+    for (number, mut calls) in by_number {
+        row(&number.to_string(), &mut calls);
     }
 }
 
 fn times() {
-    head();
-    row("mixed-corpus", &mixed());
-    for (name, file) in named() {
-        row(&name, &[file]);
-    }
+    head("files");
+    row(
+        "mixed-corpus",
+        &mut mixed().map(Call::Check).collect::<Vec<_>>(),
+    );
+    rows(named());
 }
 
 fn calls(who: &str, path: &str, count: u32) {
-    let check: Check = match who {
-        "proved" => proved,
-        _ => fast::check,
+    let side = match who {
+        "proved" => PROVED,
+        _ => RUST,
     };
-    let file = fs::read(path).expect("a file");
+    let mut call = Call::read(path);
     for _ in 0..count {
-        black_box(check(black_box(&file)));
+        black_box(side.answer(black_box(&mut call)));
+    }
+}
+
+fn write(folder: &str) {
+    for (extension, calls) in [("yard", named()), ("removal", removals())] {
+        for (name, call) in calls {
+            let path = format!("{folder}/{name}.{extension}");
+            fs::write(path, call.bytes()).expect("the file is written");
+        }
     }
 }
 
@@ -180,15 +281,15 @@ fn main() {
     let words: Vec<&str> = words.iter().map(String::as_str).collect();
     match words[..] {
         ["times"] => times(),
+        ["removals"] => {
+            head("removals");
+            rows(removals());
+        }
         ["stages"] => stages(),
         ["calls", who, path, count] => calls(who, path, count.parse().expect("a number")),
-        ["write", folder] => {
-            for (name, file) in named() {
-                fs::write(format!("{folder}/{name}.yard"), file).expect("the file is written");
-            }
-        }
+        ["write", folder] => write(folder),
         _ => {
-            eprintln!("bench times | stages | calls WHO FILE COUNT | write FOLDER");
+            eprintln!("bench times | removals | stages | calls WHO FILE COUNT | write FOLDER");
             process::exit(2);
         }
     }

@@ -623,39 +623,61 @@ fn removable(
     }
     let v = vertex as usize;
     let row = chart.row(v);
-    let mut entries = 0;
-    for ((t, &label), &stands) in chart
-        .leaving(v)
-        .zip(&labels[row.clone()])
-        .zip(&standing[row.clone()])
-    {
-        if label as u64 == level && stands == 1 {
-            entries |= bit(t.to);
-        }
-    }
+    let stands = &standing[row.clone()];
+    let labelled = chart.leaving(v).zip(&labels[row.clone()]).zip(stands);
+    let entries = labelled
+        .filter(|((_, &label), &stands)| label as u64 == level && stands == 1)
+        .fold(0, |to, ((t, _), _)| to | bit(t.to));
     if entries == 0 {
         return Err(no_entry);
     }
-    let mut next = [0; MOST_VERTICES];
-    for (from, to) in next.iter_mut().enumerate().take(chart.vertices) {
-        for (t, &stands) in chart.leaving(from).zip(&standing[chart.row(from)]) {
-            *to |= (stands as Vertices) << t.to;
+    let body = reached(entries, |u| {
+        // Stopping at v.
+        if u == v {
+            return 0;
         }
-    }
-    // Stopping at v.
-    next[v] = 0;
-    let body = closure(&next, entries);
-    let cycle_aside = onward(&next, body).is_none();
-    let broken = if cycle_aside {
-        2
-    } else if body & bit(v) == 0 {
-        1
-    } else if body & 1 != 0 {
-        3
-    } else {
-        return Ok(row);
+        let steps = chart.leaving(u).zip(&standing[chart.row(u)]);
+        steps.fold(0, |to, (t, &stands)| to | (stands as Vertices) << t.to)
+    });
+    let broken = match body {
+        None => 2,
+        Some(body) if body & bit(v) == 0 => 1,
+        Some(body) if body & 1 != 0 => 3,
+        Some(_) => return Ok(row),
     };
     Err(Answer::new(52, vertex, level, broken))
+}
+
+/// What `from` and all that follows it reach, depth first; None where there is
+/// a cycle.
+fn reached(from: Vertices, successors: impl Fn(usize) -> Vertices) -> Option<Vertices> {
+    let (mut seen, mut on_path): (Vertices, Vertices) = (0, 0);
+    let mut path = [0u8; MOST_VERTICES];
+    // What is still to be followed before each place of the path.
+    let mut rest = [0; MOST_VERTICES];
+    let mut depth = 0;
+    let mut next = from;
+    loop {
+        next &= !seen;
+        if next != 0 {
+            let vertex = lowest(next);
+            rest[depth] = next;
+            path[depth] = vertex as u8;
+            depth += 1;
+            seen |= bit(vertex);
+            on_path |= bit(vertex);
+            next = successors(vertex);
+            if next & on_path != 0 {
+                return None;
+            }
+        } else if depth == 0 {
+            return Some(seen);
+        } else {
+            depth -= 1;
+            on_path &= !bit(path[depth] as usize);
+            next = rest[depth];
+        }
+    }
 }
 
 /// The start alone.

@@ -1,6 +1,7 @@
 //! The cases of document 01's last section, starred and not, in its words.
 mod common;
-use common::{both, chart, g};
+mod removals;
+use common::{both, chart, g, two_loops};
 use oracle::gen::Yard;
 use oracle::{fast, plain, Answer, NOT_POSSIBLE, TAKEN};
 
@@ -120,33 +121,10 @@ fn following_g() {
 
 #[test]
 fn loop_inside_a_loop() {
-    let panel = chart(3, 1, &[(1, 1, 2), (1, 3, 0), (2, 1, 2), (2, 2, 1)]).bytes();
-    for remove in [plain::remove, fast::remove] {
-        let labels = [2, 0, 1, 0];
-        let mut standing = [1; 4];
-        assert_eq!(
-            remove(&panel, &labels, 1, 2, &mut standing),
-            Answer::new(52, 1, 2, 2)
-        );
-        assert_eq!(standing, [1; 4]);
-        assert_eq!(
-            remove(&panel, &labels, 2, 1, &mut standing),
-            Answer::fine(0, 0, 0)
-        );
-        assert_eq!(standing, [1, 1, 0, 1]);
-        assert_eq!(
-            remove(&panel, &labels, 1, 2, &mut standing),
-            Answer::fine(0, 0, 0)
-        );
-        assert_eq!(standing, [0, 1, 0, 1]);
-        assert_eq!(
-            remove(&panel, &labels, 1, 2, &mut standing),
-            Answer::new(51, 1, 2, 0)
-        );
-    }
+    removals::loop_inside_a_loop(fast::remove);
     says(
         &with(|y| {
-            y.chart = panel.clone();
+            y.chart = two_loops().bytes();
             y.labelling = vec![1, 0, 1, 0];
         }),
         "refused 35 1 1 2",

@@ -1,7 +1,7 @@
 //! The proved library and the plain checker on many files.
 mod common;
 mod proved;
-use common::{chart, files, first_body, g};
+use common::{files, first_body, g, two_loops};
 use oracle::gen::{self, Rng, Yard, CHECK_REFUSALS};
 use oracle::{plain, Answer};
 use std::collections::BTreeMap;
@@ -208,7 +208,7 @@ fn on_the_desk_s_files() {
         y.expression[8..].copy_from_slice(&[4, 0, 0, 0])
     });
     says("refused 35 1 1 2", |y| {
-        y.chart = chart(3, 1, &[(1, 1, 2), (1, 3, 0), (2, 1, 2), (2, 2, 1)]).bytes();
+        y.chart = two_loops().bytes();
         y.labelling = vec![1, 0, 1, 0];
     });
     let mut file = g().file();

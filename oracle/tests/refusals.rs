@@ -1,10 +1,12 @@
-//! The examples of docs/REFUSALS.md: each is the weighbridge's file with some changes, and the line
-//! that the proved library then answers. Each number of the check has one.
+//! The examples of docs/REFUSALS.md: each is the weighbridge's file with some changes and calls, and
+//! what the proved library and the plain checker then answer. Each number has one.
 mod common;
 mod proved;
+mod removals;
 use common::first_body;
-use oracle::gen::CHECK_REFUSALS;
-use oracle::Answer;
+use oracle::gen::{Yard, CHECK_REFUSALS};
+use oracle::{plain, Answer};
+use removals::Trial;
 use std::fs;
 use std::path::Path;
 
@@ -19,7 +21,7 @@ fn page() -> String {
     String::from_utf8(of_the_repository("docs/REFUSALS.md")).expect("the page is text")
 }
 
-/// One example: the number of its heading, its changes, and the line that is printed.
+/// One example: the number of its heading, its changes and calls, and what is answered.
 struct Example {
     number: u64,
     changes: Vec<String>,
@@ -82,22 +84,54 @@ fn change(file: &mut Vec<u8>, change: &str) {
 
 /// The chart of the weighbridge's expression, in so many lent bytes, and what the call answers.
 fn written(lent: usize) -> (Answer, Vec<u8>) {
-    let mut out = vec![0xEE; lent];
     let file = of_the_repository(FILE);
-    (proved::write_chart(first_body(&file), &mut out), out)
+    let [mut ours, mut theirs] = [(); 2].map(|()| vec![0xEE; lent]);
+    let answer = proved::write_chart(first_body(&file), &mut ours);
+    assert_eq!(plain::write_chart(first_body(&file), &mut theirs), answer);
+    assert_eq!(theirs, ours);
+    (answer, ours)
 }
 
-/// What is answered to the changed file; to `lend` it is the call that writes the expression's chart.
-fn answered(changes: &[String]) -> String {
-    if let Some(lent) = changes[0].strip_prefix("lend ") {
-        let (Answer { n, p, q, r }, out) = written(decimal(lent));
-        assert!(out.iter().all(|byte| *byte == 0xEE));
+fn yard(file: &[u8]) -> Yard {
+    let bodies = plain::read_records(file).expect("four records");
+    let [expression, chart, labelling, relation] = bodies.map(<[u8]>::to_vec);
+    Yard {
+        expression,
+        chart,
+        labelling,
+        relation,
+    }
+}
+
+/// Takes a loop out of the file's chart.
+fn taken(file: &[u8], pair: &str, standing: &mut [u8]) -> Answer {
+    let (v, level) = pair.split_once(' ').expect("a vertex and a level");
+    let pair = (decimal(v) as u64, decimal(level) as u64);
+    Trial::of(proved::remove).call(&yard(file), pair, standing, &"the page")
+}
+
+/// The numbers of the last call; where there is none, the line for the changed file.
+fn answered(lines: &[String]) -> String {
+    let mut file = of_the_repository(FILE);
+    let mut standing = vec![1; yard(&file).labelling.len()];
+    let mut last = None;
+    for line in lines {
+        assert!(!last.is_some_and(|answer: Answer| answer.is_refusal()));
+        match line.split_once(' ') {
+            Some(("take", pair)) => last = Some(taken(&file, pair, &mut standing)),
+            Some(("standing", rest)) => change(&mut standing, rest),
+            Some(("lend", lent)) => {
+                let (answer, out) = written(decimal(lent));
+                assert!(out.iter().all(|byte| *byte == 0xEE));
+                last = Some(answer);
+            }
+            _ => change(&mut file, line),
+        }
+    }
+    if let Some(Answer { n, p, q, r }) = last {
         return format!("{n} {p} {q} {r}");
     }
-    let mut file = of_the_repository(FILE);
-    for one in changes {
-        change(&mut file, one);
-    }
+    assert_eq!(proved::check(&file), plain::check(&file));
     proved::check(&file).to_string()
 }
 
@@ -123,7 +157,18 @@ fn each_example_is_answered_as_the_page_says() {
 fn each_number_has_an_example() {
     let mut numbers: Vec<u64> = examples().iter().map(|example| example.number).collect();
     numbers.dedup();
-    assert_eq!(numbers, [&CHECK_REFUSALS[..], &[54]].concat());
+    assert_eq!(numbers, [&CHECK_REFUSALS[..], &[50, 51, 52, 54]].concat());
+}
+
+/// 50 for the number of bytes and for a byte, 52 with each r.
+#[test]
+fn each_cause_of_50_and_52_has_an_example() {
+    let of = |number| examples().into_iter().filter(move |e| e.number == number);
+    let cut = |e: &Example| e.changes[0].starts_with("standing cut");
+    assert!(of(50).any(|e| cut(&e)) && of(50).any(|e| !cut(&e)));
+    let mut broken: Vec<char> = of(52).filter_map(|e| e.line.chars().last()).collect();
+    broken.sort();
+    assert_eq!(broken, ['1', '2', '3']);
 }
 
 /// The transition that the page shows for 44, at the place that the example's line names.

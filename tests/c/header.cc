@@ -5,5 +5,6 @@ int main()
 {
     const seq_numbers checked = seq_check(nullptr, 0);
     const seq_numbers written = seq_write_chart(nullptr, 0, nullptr, 0);
-    return checked.n == 2 && checked.p == 1 && written.n == 10 && written.p == 0 ? 0 : 1;
+    const seq_numbers removed = seq_remove(nullptr, 0, nullptr, 0, 1, 1, nullptr, 0);
+    return checked.n == 2 && checked.p == 1 && written.n == 10 && written.p == 0 && removed.n == 20 ? 0 : 1;
 }

@@ -1,6 +1,6 @@
-/* Runs the C library: document 01's starred cases of the check and of the expression's chart, empty
- * slices, the limits, and lent buffers of each length that matters. Prints what is wrong and, last,
- * the count of cases; exits with 1 where something is wrong. */
+/* Runs the C library: document 01's starred cases of the check, of the expression's chart and of the
+ * removal, empty slices, the limits, and lent buffers of each length that matters. Prints what is wrong
+ * and, last, the count of cases; exits with 1 where something is wrong. */
 #define _DEFAULT_SOURCE
 #include "sequence.h"
 
@@ -17,6 +17,7 @@ static unsigned wrong;
 /* Slices that end where memory ends: a byte read or written past one stops the program. */
 
 static uint8_t *file_end;
+static uint8_t *labels_end;
 static uint8_t *out_end;
 
 static uint8_t *end_of_memory(size_t longest)
@@ -128,6 +129,12 @@ static void put_four(body *body, unsigned a, unsigned b, unsigned c, unsigned d)
     put(body, (uint8_t)d);
 }
 
+static void set_body(body *body, const uint8_t *bytes, size_t len)
+{
+    body->len = len;
+    memcpy(body->bytes, bytes, len);
+}
+
 static void put_row(body *body, uint8_t first, uint8_t others)
 {
     put(body, first);
@@ -183,11 +190,14 @@ static void g_yard(yard *yard)
 {
     static const size_t starts[4] = {4, 20, G_LABELS, G_ROW_0};
     static const size_t lens[4] = {12, 12, 2, 64};
-    for (int k = 0; k < 4; k++) {
-        yard->bodies[k].len = lens[k];
-        memcpy(yard->bodies[k].bytes, G + starts[k], lens[k]);
-    }
+    for (int k = 0; k < 4; k++)
+        set_body(&yard->bodies[k], G + starts[k], lens[k]);
 }
+
+/* Document 01's chart of two loops, one inside the other: vertex 1 enters vertex 2 or leaves to the
+ * end, vertex 2 goes round by itself or back. */
+static const uint8_t TWO_LOOPS[20] = {3, 1, 4, 0, 1, 1, 2, 0, 1, 3, 0, 0, 2, 1, 2, 0, 2, 2, 1, 0};
+static const uint8_t TWO_LEVELS[4] = {2, 0, 1, 0};
 
 static void starred_checks(void)
 {
@@ -207,14 +217,11 @@ static void starred_checks(void)
 static void equal_levels_inside_each_other(void)
 {
     static yard yard;
-    static const uint8_t chart[20] = {3, 1, 4, 0, 1, 1, 2, 0, 1, 3, 0, 0, 2, 1, 2, 0, 2, 2, 1, 0};
     g_yard(&yard);
-    yard.bodies[CHART].len = 20;
-    memcpy(yard.bodies[CHART].bytes, chart, 20);
-    yard.bodies[LABELS].len = 4;
-    memcpy(yard.bodies[LABELS].bytes, (uint8_t[]){1, 0, 1, 0}, 4);
+    set_body(&yard.bodies[CHART], TWO_LOOPS, 20);
+    set_body(&yard.bodies[LABELS], (uint8_t[]){1, 0, 1, 0}, 4);
     expect_yard("labels 1 0 1 0", &yard, numbers(35, 1, 1, 2));
-    memcpy(yard.bodies[LABELS].bytes, (uint8_t[]){2, 0, 1, 0}, 4);
+    set_body(&yard.bodies[LABELS], TWO_LEVELS, 4);
     expect_yard("labels 2 0 1 0 against G's expression", &yard, numbers(44, 3, 1, 2));
 }
 
@@ -229,14 +236,22 @@ static void beginnings_of_g(void)
 
 static void empty_slices(void)
 {
+    static const uint8_t no_transition[4] = {2, 1, 0, 0};
     uint8_t byte = 0xAB;
-    cases += 5;
+    cases += 11;
     expect_numbers("no file", seq_check(NULL, 0), numbers(2, 1, 0, 0));
     expect_numbers("a file of no bytes", seq_check(&byte, 0), numbers(2, 1, 0, 0));
     expect_numbers("no nodes, no output", seq_write_chart(NULL, 0, NULL, 0), numbers(10, 0, 0, 0));
     expect_numbers("no nodes", seq_write_chart(NULL, 0, &byte, 1), numbers(10, 0, 0, 0));
     expect_numbers("no output", seq_write_chart(G_NODES, 12, NULL, 0), numbers(54, 20, 0, 0));
-    expect_bytes("no nodes", &byte, (uint8_t[]){0xAB}, 1);
+    expect_numbers("no chart", seq_remove(NULL, 0, NULL, 0, 1, 1, NULL, 0), numbers(20, 0, 0, 0));
+    expect_numbers("no chart, a standing byte", seq_remove(NULL, 0, NULL, 0, 1, 1, &byte, 1), numbers(20, 0, 0, 0));
+    expect_numbers("no labels", seq_remove(G_CHART, 20, NULL, 0, 1, 1, &byte, 1), numbers(30, 0, 0, 0));
+    expect_numbers("no standing bytes", seq_remove(G_CHART, 20, G_CHART, 4, 1, 1, NULL, 0), numbers(50, 0, 0, 0));
+    expect_numbers("no transition", seq_remove(no_transition, 4, NULL, 0, 1, 1, NULL, 0), numbers(51, 1, 1, 0));
+    expect_numbers("no transition, a standing byte", seq_remove(no_transition, 4, NULL, 0, 1, 1, &byte, 1),
+                   numbers(50, 0, 0, 0));
+    expect_bytes("lent to what refuses", &byte, (uint8_t[]){0xAB}, 1);
 }
 
 /* Limits. */
@@ -364,10 +379,8 @@ static void expect_chart_in_each_buffer(const char *name, const body *nodes, con
 static void chart_of_g(void)
 {
     static body nodes, chart;
-    nodes.len = sizeof G_NODES;
-    memcpy(nodes.bytes, G_NODES, sizeof G_NODES);
-    chart.len = sizeof G_CHART;
-    memcpy(chart.bytes, G_CHART, sizeof G_CHART);
+    set_body(&nodes, G_NODES, sizeof G_NODES);
+    set_body(&chart, G_CHART, sizeof G_CHART);
     expect_chart_in_each_buffer("G's expression chart", &nodes, &chart);
 }
 
@@ -426,9 +439,166 @@ static void refused_nodes(void)
             expect_chart("a part of a node", G_NODES, len, 40, numbers(10, len, 0, 0), NULL);
 }
 
+/* Removals. */
+
+typedef struct removal {
+    body chart;
+    body labels;
+    body standing;
+} removal;
+
+/* One call, whose answer and every lent byte are held to what is wanted; without `left` the standing
+ * bytes are to be kept. The next call of a list goes on with what this one left. */
+static void expect_remove(const char *name, removal *lent, size_t vertex, size_t level, seq_numbers want,
+                          const uint8_t *left)
+{
+    size_t len = lent->standing.len;
+    const uint8_t *chart = copy_before(file_end, lent->chart.bytes, lent->chart.len);
+    const uint8_t *labels = copy_before(labels_end, lent->labels.bytes, lent->labels.len);
+    uint8_t *standing = copy_before(out_end, lent->standing.bytes, len);
+    cases++;
+    expect_numbers(name, seq_remove(chart, lent->chart.len, labels, lent->labels.len, vertex, level, standing, len),
+                   want);
+    expect_bytes(name, chart, lent->chart.bytes, lent->chart.len);
+    expect_bytes(name, labels, lent->labels.bytes, lent->labels.len);
+    expect_bytes(name, standing, left ? left : lent->standing.bytes, len);
+    memcpy(lent->standing.bytes, standing, len);
+}
+
+/* The chart of two loops, all standing. */
+static void two_loops(removal *lent, const uint8_t *labels)
+{
+    set_body(&lent->chart, TWO_LOOPS, 20);
+    set_body(&lent->labels, labels, 4);
+    set_body(&lent->standing, (uint8_t[]){1, 1, 1, 1}, 4);
+}
+
+static void starred_removals(void)
+{
+    static removal lent;
+    two_loops(&lent, TWO_LEVELS);
+    expect_remove("(1, 2) before (2, 1)", &lent, 1, 2, numbers(52, 1, 2, 2), NULL);
+    expect_remove("(2, 1)", &lent, 2, 1, numbers(0, 0, 0, 0), (uint8_t[]){1, 1, 0, 1});
+    expect_remove("(2, 1) again", &lent, 2, 1, numbers(51, 2, 1, 0), NULL);
+    expect_remove("(1, 2) after (2, 1)", &lent, 1, 2, numbers(0, 0, 0, 0), (uint8_t[]){0, 1, 0, 1});
+    expect_remove("(1, 2) again", &lent, 1, 2, numbers(51, 1, 2, 0), NULL);
+}
+
+/* A loop of vertex 1 with two entries that differ in their action only: two bytes. */
+static void entries_one_by_one(void)
+{
+    static removal lent;
+    static const uint8_t chart[16] = {2, 1, 3, 0, 1, 1, 1, 0, 1, 2, 1, 0, 1, 3, 0, 0};
+    set_body(&lent.chart, chart, 16);
+    set_body(&lent.labels, (uint8_t[]){1, 1, 0}, 3);
+    set_body(&lent.standing, (uint8_t[]){1, 1, 1}, 3);
+    expect_remove("two entries", &lent, 1, 1, numbers(0, 0, 0, 0), (uint8_t[]){0, 0, 1});
+    set_body(&lent.standing, (uint8_t[]){0, 1, 1}, 3);
+    expect_remove("two entries, one gone", &lent, 1, 1, numbers(0, 0, 0, 0), (uint8_t[]){0, 0, 1});
+    set_body(&lent.standing, (uint8_t[]){0, 0, 0}, 3);
+    expect_remove("nothing stands", &lent, 1, 1, numbers(51, 1, 1, 0), NULL);
+    set_body(&lent.labels, (uint8_t[]){1, 255, 0}, 3);
+    set_body(&lent.standing, (uint8_t[]){1, 1, 0}, 3);
+    expect_remove("level 255", &lent, 1, 255, numbers(0, 0, 0, 0), (uint8_t[]){1, 0, 0});
+}
+
+/* Each number before 51, and which of two comes first. */
+static void refused_removals(void)
+{
+    static removal lent;
+    static const size_t other_lens[] = {0, 1, 3, 5, 8};
+    two_loops(&lent, TWO_LEVELS);
+    for (size_t k = 0; k < 5; k++) {
+        lent.standing.len = other_lens[k];
+        expect_remove("standing bytes too many or too few", &lent, 2, 1, numbers(50, 0, 0, 0), NULL);
+        expect_remove("such, and no loop", &lent, 3, 0, numbers(50, 0, 0, 0), NULL);
+    }
+    for (size_t i = 0; i < 4; i++) {
+        two_loops(&lent, TWO_LEVELS);
+        lent.standing.bytes[i] = i % 2 == 0 ? 2 : 255;
+        expect_remove("a standing byte of 2 or 255", &lent, 2, 1, numbers(50, 0, 0, 0), NULL);
+    }
+    for (size_t k = 0; k < 5; k++) {
+        lent.labels.len = other_lens[k];
+        expect_remove("labels too many or too few", &lent, 2, 1, numbers(30, other_lens[k], 0, 0), NULL);
+    }
+    lent.chart.bytes[4 + 4 * 3 + 3] = 1;
+    expect_remove("transition 3 with a last byte", &lent, 2, 1, numbers(21, 3, 0, 0), NULL);
+    lent.chart.bytes[4 + 4 * 1] = 0;
+    expect_remove("transition 1 of the end", &lent, 2, 1, numbers(21, 1, 0, 0), NULL);
+    lent.chart.bytes[0] = 129;
+    expect_remove("V 129", &lent, 2, 1, numbers(20, 0, 0, 0), NULL);
+    for (lent.chart.len = 0; lent.chart.len < 20; lent.chart.len++)
+        expect_remove("a beginning of the chart", &lent, 2, 1, numbers(20, 0, 0, 0), NULL);
+}
+
+/* Vertices and levels of any size: each names its own loop or none. */
+static void numbers_that_name_no_loop(void)
+{
+    static removal lent;
+    static const size_t pairs[][2] = {
+        {0, 0}, {1, 0}, {2, 0}, {0, 1}, {1, 1}, {2, 2},
+        {3, 1}, {127, 1}, {128, 1}, {258, 1}, {65538, 1}, {SIZE_MAX / 2 + 3, 1}, {SIZE_MAX, 1},
+        {2, 256}, {2, 257}, {1, 258}, {2, 65537}, {2, SIZE_MAX / 2 + 2}, {2, SIZE_MAX},
+        {SIZE_MAX, SIZE_MAX},
+    };
+    two_loops(&lent, TWO_LEVELS);
+    for (size_t i = 0; i < sizeof pairs / sizeof pairs[0]; i++)
+        expect_remove("a pair that is no loop", &lent, pairs[i][0], pairs[i][1],
+                      numbers(51, pairs[i][0], pairs[i][1], 0), NULL);
+}
+
+/* 52 with each r, and what is found where two of L1 to L3 are broken. */
+static void no_loop_charts(void)
+{
+    static removal lent;
+    two_loops(&lent, (uint8_t[]){0, 1, 1, 0});
+    expect_remove("nothing goes round, to the end", &lent, 1, 1, numbers(52, 1, 1, 1), NULL);
+    set_body(&lent.standing, (uint8_t[]){1, 1, 1, 0}, 4);
+    expect_remove("the loop at its side", &lent, 2, 1, numbers(0, 0, 0, 0), (uint8_t[]){1, 1, 0, 0});
+    two_loops(&lent, (uint8_t[]){1, 0, 1, 0});
+    set_body(&lent.standing, (uint8_t[]){1, 0, 0, 0}, 4);
+    expect_remove("nothing goes round", &lent, 1, 1, numbers(52, 1, 1, 1), NULL);
+    two_loops(&lent, (uint8_t[]){1, 1, 1, 0});
+    expect_remove("a loop inside, and the end", &lent, 1, 1, numbers(52, 1, 1, 2), NULL);
+    set_body(&lent.standing, (uint8_t[]){1, 1, 0, 1}, 4);
+    expect_remove("the end inside", &lent, 1, 1, numbers(52, 1, 1, 3), NULL);
+    set_body(&lent.standing, (uint8_t[]){1, 0, 0, 1}, 4);
+    expect_remove("its way to the end gone", &lent, 1, 1, numbers(0, 0, 0, 0), (uint8_t[]){0, 0, 0, 1});
+    two_loops(&lent, (uint8_t[]){1, 0, 1, 2});
+    expect_remove("the end further on", &lent, 2, 2, numbers(52, 2, 2, 3), NULL);
+}
+
+/* V 128, T 8,192: all loops, those of vertex 1 after those that are inside. */
+static void all_loops_of_the_full_chart(void)
+{
+    static removal lent;
+    static uint8_t left[8192];
+    put_full_chart(&lent.chart, &lent.labels);
+    lent.standing.len = sizeof left;
+    memset(lent.standing.bytes, 1, sizeof left);
+    memset(left, 1, sizeof left);
+    expect_remove("(1, 128) too early", &lent, 1, 128, numbers(52, 1, 128, 2), NULL);
+    for (size_t k = 0; k < 64 + 127; k++) {
+        size_t vertex = k < 64 ? k + 2 : 1;
+        size_t level = k < 64 ? 1 : k - 64 + 2;
+        for (size_t i = 0; i < sizeof left; i++)
+            if (lent.chart.bytes[4 + 4 * i] == vertex && lent.labels.bytes[i] == level)
+                left[i] = 0;
+        expect_remove("a loop of the full chart", &lent, vertex, level, numbers(0, 0, 0, 0), left);
+        expect_remove("the same again", &lent, vertex, level, numbers(51, vertex, level, 0), NULL);
+    }
+    for (size_t i = 0; i < sizeof left; i++)
+        left[i] = lent.labels.bytes[i] == 0;
+    expect_bytes("branches are left", lent.standing.bytes, left, sizeof left);
+    lent.standing.bytes[8191] = 2;
+    expect_remove("last byte 2", &lent, 1, 1, numbers(50, 0, 0, 0), NULL);
+}
+
 int main(void)
 {
     file_end = end_of_memory(sizeof file_bytes);
+    labels_end = end_of_memory(sizeof file_bytes);
     out_end = end_of_memory(SEQ_LONGEST_CHART + 16);
     starred_checks();
     equal_levels_inside_each_other();
@@ -442,6 +612,12 @@ int main(void)
     chart_of_sums();
     chart_of_ones_for_ever();
     refused_nodes();
+    starred_removals();
+    entries_one_by_one();
+    refused_removals();
+    numbers_that_name_no_loop();
+    no_loop_charts();
+    all_loops_of_the_full_chart();
     printf("C: %u cases, %u wrong\n", cases, wrong);
     return wrong == 0 ? 0 : 1;
 }

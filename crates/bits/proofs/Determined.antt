@@ -10,6 +10,7 @@ use native.Mathlib.Decide.{ℕ-discrete}
 use native.Mathlib.Omega.{arith}
 use lib.ListN.{getD}
 use Rattle.bits.specs.declared.sets.Set.{Set}
+use Rattle.bits.specs.Bits.{HighestByte}
 use Rattle.bits.specs.Words.{On, LowestOn, HighestOn, With, Without}
 use Rattle.bits.specs.First.{First, Split}
 use Rattle.bits.specs.Packed.{Packed}
@@ -41,6 +42,12 @@ split-one {P} {n} {r} {t} S T = neither r t (lower S T) (lower T S)
   where
     lower : {x y : ℕ} → Split P n x → Split P n y → ¬ (x < y)
     lower {x} A B h = A .above x (le-refl x) (omega (arith, h, B .within)) (B .below x h)
+
+pub highest-byte-one : {bytes : List ℕ} {r t : ℕ} → HighestByte bytes r → HighestByte bytes t → r ≡ t
+highest-byte-one {bytes} {r} {t} H K = neither r t (lower H K) (lower K H)
+  where
+    lower : {x y : ℕ} → HighestByte bytes x → HighestByte bytes y → ¬ (x < y)
+    lower A B h = let (i, l, e) = B .is-byte (omega (arith, h)) in omega (arith, h, e, A .above i)
 
 -- words by their bits
 pub with-one : {x k r t : ℕ} → With x k r → With x k t → r ≡ t

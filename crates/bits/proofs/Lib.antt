@@ -3,6 +3,7 @@ pub mod Powers
 pub mod Words
 pub mod Counts
 pub mod Packed
+pub mod Highest
 pub mod Members
 pub mod Gains
 pub mod Determined

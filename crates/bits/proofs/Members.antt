@@ -1,8 +1,8 @@
 -- Sets of the numbers below 128, by the bits of their two words.
 use mathlib.Core.Path.{_≡_, refl, sym, _∙_, ap, subst}
-use mathlib.Core.Logic.{_≢_, _⊎_, inl, inr, ⊎-elim, _↔_}
+use mathlib.Core.Logic.{_⊎_, inl, inr, ⊎-elim, _↔_}
 use mathlib.Core.Bool.{Bool, true, false, cond, _&&_, true≢false, false≢true}
-use Prim.Native.Nat.{ℕ, zero, suc, _+_, _-_, _*_, _/_, _%_, _^_, _≤_, _<_}
+use Prim.Native.Nat.{ℕ, _+_, _-_, _/_, _%_, _^_, _≤_, _<_}
 use native.Mathlib.Nat.{zero-div}
 use native.Mathlib.Omega.{arith}
 use native.Mathlib.Decide.{decLt, ℕ-discrete}
@@ -79,6 +79,14 @@ with-law s w r m f g y = ((λ h. ⊎-map (λ o. record { below = h .below; on = 
     back : Has s y ⊎ (y ≡ w) → Has r y
     back (inl h) = record { below = h .below; on = pick (ltb y 64) refl (h .below) .1 (inl (h .on)) }
     back (inr e) = record { below = omega (arith, e, m); on = pick (ltb y 64) refl (omega (arith, e, m)) .1 (inr e) }
+
+-- w too where the flag is set
+pub with-set : {s r : Set} {w : ℕ} {flag : Bool} → flag ≡ true → ((y : ℕ) → Has r y ↔ (Has s y ⊎ (y ≡ w)))
+    → (y : ℕ) → Has r y ↔ (Has s y ⊎ ((flag ≡ true) × (y ≡ w)))
+with-set f W y = ((λ h. ⊎-map (λ g. g) (λ e. (f, e)) (W y .0 h)), (λ h. W y .1 (⊎-map (λ g. g) (λ e. e .1) h)))
+
+pub with-unset : {s : Set} {w : ℕ} {flag : Bool} → flag ≡ false → (y : ℕ) → Has s y ↔ (Has s y ⊎ ((flag ≡ true) × (y ≡ w)))
+with-unset f y = (inl, (λ h. ⊎-elim (λ g. g) (λ e. absurd (true≢false (sym (e .0) ∙ f))) h))
 
 -- a bit of a word is a number of the set
 pub low-has : (s : Set) (k : ℕ) → k < 64 → On (s .lo) k → Has s k

@@ -1,5 +1,5 @@
--- The definitions. The meaning: Words, First, Packed, Sets, Tables, and Bytes in Bits. The tests that run: hasBit in
--- Bits, bitsBelow in Counts.
+-- The definitions. The meaning: Words, First, Packed, Sets, Tables, and of Bits Bytes and HighestByte. The tests that
+-- run: hasBit in Bits, bitsBelow in Counts.
 pub mod Bits
 pub mod Words
 pub mod First

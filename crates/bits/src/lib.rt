@@ -8,9 +8,9 @@ pub use sets::read_set;
 ghost use mathlib.Core.Path.{_≡_};
 ghost use mathlib.Core.Bool.{true};
 ghost use mathlib.Core.Logic.{_≢_, _⊎_, _↔_};
-ghost use Prim.Native.Nat.{ℕ, _+_, _*_, _≤_, _<_, _^_};
+ghost use Prim.Native.Nat.{ℕ, max, _+_, _*_, _≤_, _<_, _^_};
 ghost use lib.ListN.{length, getD};
-ghost use Rattle.bits.specs.Bits.{hasBit};
+ghost use Rattle.bits.specs.Bits.{hasBit, HighestByte};
 ghost use Rattle.bits.specs.Words.{On, LowestOn, HighestOn, With, Without};
 ghost use Rattle.bits.specs.First.{First};
 ghost use Rattle.bits.specs.Counts.{bitsBelow};
@@ -55,6 +55,26 @@ pub fn read_u64(s: &[u8], at: usize) -> u64
     let low = read_u32(s, at);
     let high = read_u32(s, at + 4);
     (low + 4294967296 * high) as u64
+}
+
+// The greater of two bytes.
+fn greater(a: u8, b: u8) -> u8
+    ensures { λ r. ⌜ r ≡ max a b ⌝ }
+{
+    if a < b { b } else { a }
+}
+
+// The highest of some bytes, or 0.
+pub fn highest_byte(bytes: &[u8]) -> usize
+    ensures { λ r. ⌜ (r < 256) × HighestByte (now (bytes .entry)) r ⌝ }
+{
+    let mut top: u8 = 0;
+    let mut i: usize = 0;
+    while i < bytes.len() {
+        top = greater(top, bytes[i]);
+        i += 1;
+    }
+    top as usize
 }
 
 // What bit i of a byte is worth.

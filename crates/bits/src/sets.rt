@@ -75,6 +75,17 @@ impl Set {
         }
     }
 
+    // The set with w too where the flag is set.
+    pub fn with_if(self, w: usize, flag: bool) -> Set
+        requires { ⌜ w < 128 ⌝ }
+        ensures { λ r. ⌜ ((y : ℕ) → Has r y ↔ (Has self y ⊎ ((flag ≡ true) × (y ≡ w)))) ⌝ }
+    {
+        if flag {
+            return self.with(w);
+        }
+        self
+    }
+
     pub fn without(self, w: usize) -> Set
         requires { ⌜ w < 128 ⌝ }
         ensures { λ r. ⌜ ((y : ℕ) → Has r y ↔ (Has self y × (y ≢ w))) ⌝ }

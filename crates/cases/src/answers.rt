@@ -4,6 +4,13 @@ ghost use Rattle.io.specs.Counts.{Counts};
 use crate::records::least;
 use report::Numbers;
 
+// So many of the bytes, or all that there are.
+pub(crate) fn at_most(bytes: &[u8], count: usize) -> usize
+    ensures { λ r. ⌜ Counts r (now (bytes .entry)) ⌝ }
+{
+    least(bytes.len(), count)
+}
+
 // Copies a part behind what the text has, as far as there is room.
 pub(crate) fn append(text: &mut [u8], at: usize, part: &[u8]) -> usize
     requires { ⌜ Counts at (now text) ⌝ }
@@ -45,6 +52,15 @@ pub(crate) fn write_verdict(text: &mut [u8], numbers: Numbers) -> usize
     let at = append_value(text, at, numbers.p);
     let at = append_value(text, at, numbers.q);
     append_value(text, at, numbers.r)
+}
+
+pub(crate) fn write_removed(text: &mut [u8], numbers: Numbers) -> usize
+    ensures { λ r. ⌜ Counts r (now (text .exit)) ⌝ }
+{
+    if numbers.n == 0 {
+        return append(text, 0, b" done");
+    }
+    write_verdict(text, numbers)
 }
 
 fn glyph(digit: u8) -> u8

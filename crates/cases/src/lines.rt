@@ -20,7 +20,7 @@ use crate::words::place;
 // else a line does before a call, a remark and a line without words, and the calls.
 pub(crate) fn word_of(line: &[u8]) -> usize {
     place(
-        b"nodes chart labels relation file more repeat at row cut keep case #  check leaving ",
+        b"nodes chart labels relation file more repeat at row cut keep case standing #  check leaving take left ",
         part(line, 0, find(line, 0, b' ')),
     )
 }
@@ -37,9 +37,15 @@ pub(crate) const KEEP: usize = 10;
 
 pub(crate) const CASE: usize = 11;
 
-pub(crate) const CHECK: usize = 14;
+pub(crate) const STANDING: usize = 12;
 
-pub(crate) const LEAVING: usize = 15;
+pub(crate) const CHECK: usize = 15;
+
+pub(crate) const LEAVING: usize = 16;
+
+pub(crate) const TAKE: usize = 17;
+
+pub(crate) const LEFT: usize = 18;
 
 // The offset at which a line's bytes begin: a record's name replaces all that there is.
 fn offset(word: usize, size: usize, n: usize) -> usize

@@ -7,6 +7,8 @@ use std::num::wrapping_add_u8;
 
 pub(crate) const CHART: usize = 1;
 
+pub(crate) const LABELS: usize = 2;
+
 pub(crate) const FILE: usize = 4;
 
 pub(crate) const KEPT: usize = 5;

@@ -5,6 +5,6 @@ pub mod Refusals
 pub mod Order
 pub mod Parts
 pub mod Searches
-pub mod Kept
+pub mod Rows
 pub mod Relations
 pub mod Standing

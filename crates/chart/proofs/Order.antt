@@ -1,8 +1,8 @@
 -- The froms of a well-formed body do not fall, so a number parts its transitions.
-use mathlib.Core.Path.{_≡_, sym, _∙_, subst}
+use mathlib.Core.Path.{_≡_, sym, _∙_, ap₂, subst}
 use mathlib.Core.Logic.{⊎-elim, by-cases}
 use mathlib.Core.List.{List}
-use Prim.Native.Nat.{ℕ, _+_, _-_, _*_, _≤_, _<_}
+use Prim.Native.Nat.{ℕ, _+_, _*_, _≤_, _<_}
 use native.Mathlib.Nat.{eq-or-lt-of-le, le-refl}
 use native.Mathlib.Decide.{decLe, decLt}
 use native.Mathlib.Omega.{arith}
@@ -12,9 +12,10 @@ use borrow.Author.Count.{below-more}
 use Rattle.bits.specs.Bits.{Bytes}
 use Rattle.bits.proofs.Determined.{split-one}
 use Rattle.bits.proofs.Gains.{filled}
+use Rattle.chart.specs.declared.sets.Span.{Span}
 use Rattle.chart.specs.Bodies.{verticesOf, countOf, fromOf, keyAt, WellFormed}
 use Rattle.bits.specs.First.{Split}
-use Rattle.chart.specs.Leaving.{FromBelow, Begins}
+use Rattle.chart.specs.Leaving.{FromBelow, RangeOf, Begins}
 
 -- of bytes, a lower key has no higher from
 key-from : (b : List ℕ) → Bytes b → (i j : ℕ) → keyAt b i < keyAt b j → fromOf b i ≤ fromOf b j
@@ -126,3 +127,21 @@ module _ {b r : List ℕ} (R : Begins b r) (u : ℕ) (l : u < 128) where
 -- one answer
 pub begins-one : {b r t : List ℕ} → Begins b r → Begins b t → r ≡ t
 begins-one {b} {r} {t} R S = ext-getD 0 r t (R .long ∙ sym (S .long)) (λ i h. split-one (R .split i (omega (arith, R .long))) (S .split i (omega (arith, R .long))))
+
+-- nothing leaves a vertex from V on
+pub range-high : {b : List ℕ} {n v : ℕ} → WellFormed b → n ≡ countOf b → verticesOf b ≤ v → RangeOf b v (record { from = n; to = n })
+range-high {b} {n} {v} W e h = record { begins = all v h; ends = all (v + 1) (omega arith) }
+  where
+    all : (u : ℕ) → verticesOf b ≤ u → Split (FromBelow b u) (countOf b) n
+    all u l = record {
+      within = omega (arith, e);
+      below = λ i g. record { is = omega (arith, W .each i (omega (arith, e)) .from-high) };
+      above = λ i p q. absurd (omega (arith, e));
+    }
+
+-- one answer
+abbrev span-of : ℕ → ℕ → Span
+span-of a e = record { from = a; to = e }
+
+pub range-one : {b : List ℕ} {v : ℕ} {r t : Span} → RangeOf b v r → RangeOf b v t → r ≡ t
+range-one R S = ap₂ span-of (split-one (R .begins) (S .begins)) (split-one (R .ends) (S .ends))

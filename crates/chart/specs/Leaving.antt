@@ -8,6 +8,7 @@ use lib.Dec.{eqb}
 use Rattle.report.specs.declared.Stage.{Stage}
 use Rattle.report.specs.declared.Stage.the-variants.{Passed, Refused}
 use Rattle.bits.specs.First.{Split}
+use Rattle.chart.specs.declared.sets.Span.{Span}
 use Rattle.chart.specs.Bodies.{countOf, fromOf}
 use Rattle.chart.specs.Checks.{checkOf}
 
@@ -31,6 +32,11 @@ leavingOf b v = whenPassed (checkOf b) (leavingAt b v 0 (countOf b)) []
 -- transition i leaves a vertex below v
 pub record FromBelow (b : List ℕ) (v i : ℕ) : Type 0 where
   pub is : fromOf b i < v
+
+-- the transitions of v stand from the first index of the span up to the second
+pub record RangeOf (b : List ℕ) (v : ℕ) (r : Span) : Type 0 where
+  pub begins : Split (FromBelow b v) (countOf b) (r .from)
+  pub ends : Split (FromBelow b (v + 1)) (countOf b) (r .to)
 
 -- a place of a body of n transitions that passes, not past those of v
 pub record NotPast (b : List ℕ) (n v at : ℕ) : Type 0 where

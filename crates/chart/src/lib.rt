@@ -7,16 +7,17 @@ ghost use lib.ListN.{length, getD};
 ghost use Rattle.chart.specs.Bodies.{countOf};
 ghost use Rattle.chart.specs.Checks.{headerOk, checkOf};
 ghost use Rattle.chart.specs.Codes.{reversedOf, codeOk};
-ghost use Rattle.chart.specs.Leaving.{leavingAt, leavingOf, FromBelow, NotPast, Begins};
+ghost use Rattle.chart.specs.Leaving.{leavingAt, leavingOf, FromBelow, RangeOf, NotPast, Begins};
 ghost use Rattle.chart.specs.Steps.{Kept};
 ghost use Rattle.bits.specs.First.{Split};
-ghost use Rattle.bits.specs.Tables.{Table, Gains, When};
+ghost use Rattle.bits.specs.Sets.{Members};
+use bits::Set;
 use bits::byte;
 use bits::read_u16;
 use bits::read_u32;
-use bits::tables::insert;
 use report::Place;
 use report::Stage;
+use sets::Span;
 
 // T, the number of transitions that the header declares.
 pub fn count(body: &[u8]) -> usize
@@ -99,17 +100,28 @@ fn lower(body: &[u8], n: usize, v: usize) -> usize
     lo
 }
 
+// Where the transitions of v stand, by their index.
+pub fn range_of(body: &[u8], v: usize) -> Span
+    requires { ⌜ checkOf (now body) ≡ Stage.Passed ⌝ }
+    ensures { λ r. ⌜ RangeOf (now (body .entry)) v r ⌝ }
+{
+    let n = count(body);
+    if v >= byte(body, 0) {
+        return Span { from: n, to: n };
+    }
+    let from = lower(body, n, v);
+    let to = lower(body, n, v + 1);
+    Span { from, to }
+}
+
 // The transitions of a body that passes which leave v.
 fn leaving_part(body: &[u8], v: usize) -> &[u8]
     requires { ⌜ checkOf (now body) ≡ Stage.Passed ⌝ }
     ensures { λ r. ⌜ now r ≡ leavingAt (now (body .entry)) v 0 (countOf (now (body .entry))) ⌝ }
 {
-    if v >= byte(body, 0) {
-        return &body[..0];
-    }
-    let n = count(body);
-    let a = 4 * lower(body, n, v) + 4;
-    let e = 4 * lower(body, n, v + 1) + 4;
+    let range = range_of(body, v);
+    let a = 4 * range.from + 4;
+    let e = 4 * range.to + 4;
     &body[a..e]
 }
 
@@ -174,28 +186,20 @@ pub fn begins(body: &[u8]) -> [usize; 129]
     begins
 }
 
-// Where the flag is 1, puts w into set v of a table.
-fn insert_flagged(flag: usize, table: &mut [u64], v: usize, w: usize)
-    requires { ⌜ (2 * v + 2 ≤ length (now table)) × (w < 128) ⌝ }
-    ensures { λ _. ⌜ Gains (When (flag ≡ 1) v w) (now (table .entry)) (now (table .exit)) ⌝ }
+// What the transitions of u lead to whose `keep` byte is 1.
+pub fn kept_row(body: &[u8], keep: &[u8], begins: &[usize; 129], u: usize) -> Set
+    requires { ⌜ (checkOf (now body) ≡ Stage.Passed)
+        × (countOf (now body) ≤ length (now keep))
+        × Begins (now body) (now begins)
+        × (u < 128) ⌝ }
+    ensures { λ r. ⌜ Members (Kept (now (body .entry)) (now (keep .entry)) u) r ⌝ }
 {
-    if flag == 1 {
-        insert(table, v, w);
-    }
-}
-
-// The transitions whose `keep` byte is 1, as a table: set u has what they enter from u.
-pub fn kept_table(body: &[u8], keep: &[u8]) -> [u64; 256]
-    requires { ⌜ (checkOf (now body) ≡ Stage.Passed) × (countOf (now body) ≤ length (now keep)) ⌝ }
-    ensures { λ r. ⌜ Table 128 (Kept (now (body .entry)) (now (keep .entry))) r ⌝ }
-{
-    let n = count(body);
-    let mut table = [0u64; 256];
-    let mut i: usize = 0;
-    while i < n {
-        let p = 4 * i + 4;
-        insert_flagged(byte(keep, i), &mut table, byte(body, p), byte(body, p + 2));
+    let end = begins[u + 1];
+    let mut set = Set::empty();
+    let mut i = begins[u];
+    while i < end {
+        set = set.with_if(byte(body, 4 * i + 4 + 2), byte(keep, i) == 1);
         i += 1;
     }
-    table
+    set
 }

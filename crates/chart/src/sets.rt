@@ -17,7 +17,7 @@ pub struct Search {
     pub past: Set,
 }
 
-// The vertices from one up to another.
+// The numbers from one up to another.
 pub struct Span {
     pub from: usize,
     pub to: usize,

@@ -1,11 +1,13 @@
 -- The four numbers determine the answer: no two refusals have the same, and none has those of an answer that refuses
 -- nothing.
 use mathlib.Core.Path.{_≡_, refl, sym, _∙_, ap}
+use mathlib.Core.Logic.{_≢_, _⊎_, inl, inr, ⊎-elim}
 use mathlib.Core.Bool.{cond}
-use Prim.Native.Nat.{_<_}
+use Prim.Native.Nat.{ℕ, _+_, _<_}
 use native.Mathlib.Omega.{arith}
 use lib.Dec.{eqb}
-use Rattle.report.specs.Numbers.{placeNumbers, verdictNumbers, writtenNumbers}
+use borrow.Author.Tests.{ne-eqb}
+use Rattle.report.specs.Numbers.{placeNumbers, verdictNumbers, writtenNumbers, removedNumbers}
 use Rattle.report.specs.declared.Numbers.{Numbers}
 use Rattle.report.specs.declared.Place.{Place}
 use Rattle.report.specs.declared.Place.the-variants.{File, Record, RecordKind, FileOffset, NodesLength, Node, NodeUses, ChartHeader, Transition, LabelsLength, Unreached, BranchCycle, LoopNoReturn, LoopEndInside, LoopNotLower, RelationLength, PairNoVertex, PairStarts, PairEnds, PairExpressionStep, PairChartStep, OutputLength}
@@ -13,6 +15,8 @@ use Rattle.report.specs.declared.Verdict.{Verdict}
 use Rattle.report.specs.declared.Verdict.the-variants as verdict
 use Rattle.report.specs.declared.Written.{Written}
 use Rattle.report.specs.declared.Written.the-variants as written
+use Rattle.report.specs.declared.Removed.{Removed}
+use Rattle.report.specs.declared.Removed.the-variants as removed
 
 -- the refusal that has these numbers
 placeAt : Numbers → Place
@@ -65,30 +69,37 @@ place-at (PairExpressionStep p q r) = refl
 place-at (PairChartStep p q r) = refl
 place-at (OutputLength p) = refl
 
--- a refusal's number is not 0
+-- the numbers of these refusals: each is below 50, or 54
+range : (x : Place) → (0 < placeNumbers x .n) × ((placeNumbers x .n < 50) ⊎ (placeNumbers x .n ≡ 54))
+range File = (omega arith, inl (omega arith))
+range (Record p) = (omega arith, inl (omega arith))
+range (RecordKind p q) = (omega arith, inl (omega arith))
+range (FileOffset p) = (omega arith, inl (omega arith))
+range (NodesLength p) = (omega arith, inl (omega arith))
+range (Node p) = (omega arith, inl (omega arith))
+range (NodeUses p q) = (omega arith, inl (omega arith))
+range ChartHeader = (omega arith, inl (omega arith))
+range (Transition p) = (omega arith, inl (omega arith))
+range (LabelsLength p) = (omega arith, inl (omega arith))
+range (Unreached p) = (omega arith, inl (omega arith))
+range (BranchCycle p) = (omega arith, inl (omega arith))
+range (LoopNoReturn p q) = (omega arith, inl (omega arith))
+range (LoopEndInside p q) = (omega arith, inl (omega arith))
+range (LoopNotLower p q r) = (omega arith, inl (omega arith))
+range (RelationLength p) = (omega arith, inl (omega arith))
+range (PairNoVertex p q) = (omega arith, inl (omega arith))
+range (PairStarts p q) = (omega arith, inl (omega arith))
+range (PairEnds p q) = (omega arith, inl (omega arith))
+range (PairExpressionStep p q r) = (omega arith, inl (omega arith))
+range (PairChartStep p q r) = (omega arith, inl (omega arith))
+range (OutputLength p) = (omega arith, inr refl)
+
 numbered : (x : Place) → 0 < placeNumbers x .n
-numbered File = omega arith
-numbered (Record p) = omega arith
-numbered (RecordKind p q) = omega arith
-numbered (FileOffset p) = omega arith
-numbered (NodesLength p) = omega arith
-numbered (Node p) = omega arith
-numbered (NodeUses p q) = omega arith
-numbered ChartHeader = omega arith
-numbered (Transition p) = omega arith
-numbered (LabelsLength p) = omega arith
-numbered (Unreached p) = omega arith
-numbered (BranchCycle p) = omega arith
-numbered (LoopNoReturn p q) = omega arith
-numbered (LoopEndInside p q) = omega arith
-numbered (LoopNotLower p q r) = omega arith
-numbered (RelationLength p) = omega arith
-numbered (PairNoVertex p q) = omega arith
-numbered (PairStarts p q) = omega arith
-numbered (PairEnds p q) = omega arith
-numbered (PairExpressionStep p q r) = omega arith
-numbered (PairChartStep p q r) = omega arith
-numbered (OutputLength p) = omega arith
+numbered x = range x .0
+
+-- a number from 50 to 53 is another's
+not-fifty : (x : Place) (k : ℕ) → k < 4 → placeNumbers x .n ≢ 50 + k
+not-fifty x k h e = ⊎-elim (λ l. omega (arith, l, e)) (λ l. omega (arith, l, e, h)) (range x .1)
 
 -- NO TWO REFUSALS HAVE THE SAME FOUR NUMBERS
 pub one-refusal : (x y : Place) → placeNumbers x ≡ placeNumbers y → x ≡ y
@@ -111,3 +122,29 @@ one-written (written.Length n) (written.Length m) e = ap written.Length (ap (λ 
 one-written (written.Length n) (written.Refused y) e = absurd (omega (arith, numbered y, ap (λ (k : Numbers). k .n) e))
 one-written (written.Refused x) (written.Length m) e = absurd (omega (arith, numbered x, ap (λ (k : Numbers). k .n) e))
 one-written (written.Refused x) (written.Refused y) e = ap written.Refused (one-refusal x y e)
+
+-- and no two answers of a removal; the one that has these numbers
+removedAt : Numbers → Removed
+removedAt k =
+    cond (eqb (k .n) 0) removed.Done
+    (cond (eqb (k .n) 50) removed.StandingBytes
+    (cond (eqb (k .n) 51) (removed.NoEntry (k .p) (k .q))
+    (cond (eqb (k .n) 52) (removed.NotLoop (k .p) (k .q) (k .r))
+    (removed.Refused (placeAt k)))))
+
+removed-at : (x : Removed) → removedAt (removedNumbers x) ≡ x
+unfolding removedAt
+removed-at removed.Done = refl
+removed-at (removed.Refused place) =
+    rw (
+      ne-eqb (placeNumbers place .n) 0 (λ e. omega (arith, e, numbered place)),
+      ne-eqb (placeNumbers place .n) 50 (not-fifty place 0 (omega arith)),
+      ne-eqb (placeNumbers place .n) 51 (not-fifty place 1 (omega arith)),
+      ne-eqb (placeNumbers place .n) 52 (not-fifty place 2 (omega arith)),
+    ) (ap removed.Refused (place-at place))
+removed-at removed.StandingBytes = refl
+removed-at (removed.NoEntry v l) = refl
+removed-at (removed.NotLoop v l r) = refl
+
+pub one-removed : (x y : Removed) → removedNumbers x ≡ removedNumbers y → x ≡ y
+one-removed x y e = sym (removed-at x) ∙ ap removedAt e ∙ removed-at y

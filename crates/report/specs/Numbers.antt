@@ -7,6 +7,8 @@ use Rattle.report.specs.declared.Verdict.{Verdict}
 use Rattle.report.specs.declared.Verdict.the-variants as verdict
 use Rattle.report.specs.declared.Written.{Written}
 use Rattle.report.specs.declared.Written.the-variants as written
+use Rattle.report.specs.declared.Removed.{Removed}
+use Rattle.report.specs.declared.Removed.the-variants as removed
 
 abbrev pub four : ℕ → ℕ → ℕ → ℕ → Numbers
 four n p q r = record { n = n; p = p; q = q; r = r }
@@ -44,3 +46,11 @@ verdictNumbers (verdict.Refused place) = placeNumbers place
 abbrev pub writtenNumbers : Written → Numbers
 writtenNumbers (written.Length length) = four 0 length 0 0
 writtenNumbers (written.Refused place) = placeNumbers place
+
+-- nothing refused: 0
+abbrev pub removedNumbers : Removed → Numbers
+removedNumbers removed.Done = four 0 0 0 0
+removedNumbers (removed.Refused place) = placeNumbers place
+removedNumbers removed.StandingBytes = four 50 0 0 0
+removedNumbers (removed.NoEntry v l) = four 51 v l 0
+removedNumbers (removed.NotLoop v l r) = four 52 v l r

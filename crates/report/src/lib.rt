@@ -1,6 +1,6 @@
 // The answers, and document 01's number and values (n, p, q, r) for each of their cases.
 ghost use mathlib.Core.Path.{_≡_};
-ghost use Rattle.report.specs.Numbers.{four, placeNumbers, verdictNumbers, writtenNumbers};
+ghost use Rattle.report.specs.Numbers.{four, placeNumbers, verdictNumbers, writtenNumbers, removedNumbers};
 
 // A refusal, which holds its place: one case for each number of document 01.
 pub enum Place {
@@ -74,6 +74,19 @@ pub enum Written {
     Refused(Place),
 }
 
+// What taking out a loop answers: done, or a refusal.
+pub enum Removed {
+    Done,
+    // 20, 21, 30: of the chart and the labels
+    Refused(Place),
+    // 50: standing bytes not one a transition, or not 0 or 1
+    StandingBytes,
+    // 51: pair (vertex, level) with no standing entry
+    NoEntry(usize, usize),
+    // 52: loop (vertex, level) whose chart is no loop chart, and the first of L1, L2, L3 that is broken
+    NotLoop(usize, usize, usize),
+}
+
 // The refusal's number, or 0 where nothing is refused, and three values.
 #[repr(C)]
 pub struct Numbers {
@@ -144,5 +157,17 @@ pub fn written_numbers(written: Written) -> Numbers
     match written {
         Written::Length(length) => four_numbers(0, length, 0, 0),
         Written::Refused(place) => place_numbers(place),
+    }
+}
+
+pub fn removed_numbers(removed: Removed) -> Numbers
+    ensures { λ r. ⌜ r ≡ removedNumbers removed ⌝ }
+{
+    match removed {
+        Removed::Done => four_numbers(0, 0, 0, 0),
+        Removed::Refused(place) => place_numbers(place),
+        Removed::StandingBytes => four_numbers(50, 0, 0, 0),
+        Removed::NoEntry(v, l) => four_numbers(51, v, l, 0),
+        Removed::NotLoop(v, l, r) => four_numbers(52, v, l, r),
     }
 }

@@ -2,10 +2,12 @@
 // anything, since nothing checks a C caller.
 ghost use mathlib.Core.Path.{_≡_};
 ghost use lib.ListN.{length};
-ghost use Rattle.report.specs.Numbers.{verdictNumbers, writtenNumbers};
+ghost use Rattle.report.specs.Numbers.{verdictNumbers, writtenNumbers, removedNumbers};
 ghost use Rattle.verdict.specs.Verdicts.{verdictOf};
 ghost use Rattle.expression.specs.Body.{writtenOf, bufferOf};
+ghost use Rattle.elimination.specs.Removals.{removalOf, leftOf};
 use report::Numbers;
+use report::removed_numbers;
 use report::verdict_numbers;
 use report::written_numbers;
 
@@ -25,4 +27,21 @@ pub extern "C" fn seq_write_chart(nodes: &[u8], out: &mut [u8]) -> Numbers
         × (now (out .exit) ≡ bufferOf (now (nodes .entry)) (now (out .entry))) ⌝ }
 {
     written_numbers(expression::write_chart(nodes, out))
+}
+
+// Takes out the loop (vertex, level) of a chart with these labels, where the transitions whose byte
+// is 1 stand: 0 where the bytes of its entries have become 0, or the refusal, which changes none.
+#[no_mangle]
+pub extern "C" fn seq_remove(
+    chart: &[u8],
+    labels: &[u8],
+    vertex: usize,
+    level: usize,
+    standing: &mut [u8],
+) -> Numbers
+    ensures { λ r. ⌜ (r ≡ removedNumbers (removalOf (now (chart .entry)) (now (labels .entry)) vertex level (now (standing .entry))))
+        × (now (standing .exit)
+        ≡ leftOf (now (chart .entry)) (now (labels .entry)) vertex level (now (standing .entry))) ⌝ }
+{
+    removed_numbers(elimination::remove(chart, labels, vertex, level, standing))
 }

@@ -2,13 +2,11 @@
 use mathlib.Core.Path.{_≡_, subst}
 use mathlib.Core.Logic.{_⊎_, inl, inr, by-cases, _↔_}
 use mathlib.Core.List.{List}
-use Prim.Native.Nat.{ℕ, max, _+_, _*_, _/_, _%_, _≤_, _<_}
+use Prim.Native.Nat.{ℕ, _+_, _*_, _/_, _%_, _<_}
 use native.Mathlib.Nat.{le-refl}
-use native.Mathlib.Decide.{ℕ-discrete, decLt}
+use native.Mathlib.Decide.{ℕ-discrete}
 use native.Mathlib.Omega.{arith}
-use borrow.Author.Count.{below-more}
-use lib.ListN.{length, getD, List·getD-eq-default}
-use Rattle.bits.specs.Bits.{Bytes}
+use Rattle.bits.specs.Bits.{Bytes, HighestByte}
 use Rattle.bits.specs.First.{First}
 use Rattle.bits.specs.declared.sets.Set.{Set}
 use Rattle.bits.specs.Sets.{Members}
@@ -16,7 +14,7 @@ use Rattle.theory.specs.Charts.{Loop}
 use Rattle.chart.specs.Bodies.{WellFormed}
 use Rattle.chart.specs.Steps.{StepsOf}
 use Rattle.bits.specs.Tables.{rowOf, Table, Gains}
-use Rattle.witness.specs.Given.{Tables, Enters, EntersHigh, HighestLabel, NoneAbove, InLater, IsLevel, EntryLevels, EntryTargets}
+use Rattle.witness.specs.Given.{Tables, Enters, EntersHigh, NoneAbove, InLater, IsLevel, EntryLevels, EntryTargets}
 use Rattle.witness.specs.Loops.{HasBodies, LoopGiven}
 use Rattle.witness.proofs.Labellings.{loop-below}
 use Rattle.witness.proofs.Firsts.{first-as}
@@ -62,22 +60,5 @@ module _ {b labels : List ℕ} {v : ℕ} where
   }
 
 -- no vertex has an entry of a level above the highest label
-pub none-higher : {b labels entered : List ℕ} {top : ℕ} → Table 256 (Enters (StepsOf b labels)) entered → HighestLabel labels top → NoneAbove entered top
+pub none-higher : {b labels entered : List ℕ} {top : ℕ} → Table 256 (Enters (StepsOf b labels)) entered → HighestByte labels top → NoneAbove entered top
 none-higher T h x y a l g = let (p, w, s) = T .exactly x y l (g .below) .0 g in omega (arith, a, h .above (s .at), s .holds .is)
-
--- the highest of the first i labels, and of one more
-pub record HighestTo (labels : List ℕ) (i top : ℕ) : Type 0 where
-  pub above : (j : ℕ) → j < i → getD labels j 0 ≤ top
-  pub is-label : 0 < top → (j : ℕ) × (j < i) × (getD labels j 0 ≡ top)
-
-pub highest-more : {labels : List ℕ} {i top r : ℕ} → HighestTo labels i top → r ≡ max top (getD labels i 0) → HighestTo labels (i + 1) r
-highest-more {labels} {i} {top} {r} H e = record {
-  above = below-more (λ (j : ℕ). getD labels j 0 ≤ r) i (λ j h. let k = H .above j h in omega (arith, e, k)) (omega (arith, e));
-  is-label = λ some. by-cases (decLt top (getD labels i 0)) (λ g. (i, omega arith, omega (arith, e, g))) (λ g. let (j, l, q) = H .is-label (omega (arith, e, g, some)) in (j, omega arith, omega (arith, e, g, q)));
-}
-
-pub highest-all : {labels : List ℕ} {i top : ℕ} → HighestTo labels i top → i ≡ length labels → HighestLabel labels top
-highest-all {labels} {i} {top} H e = record {
-  above = λ j. by-cases (decLt j i) (H .above j) (λ g. omega (arith, List·getD-eq-default labels 0 {n = j} (omega (arith, e, g))));
-  is-label = λ some. let (j, l, q) = H .is-label some in (j, omega (arith, e, l), q);
-}

@@ -94,11 +94,6 @@ pub record Collected (S : Steps) (next branches entries low entered : List ℕ) 
   pub of-low : LowestLevels S low
   pub of-entered : Table 256 (Enters S) entered
 
--- r is the highest of the labels, or 0 where there are none
-pub record HighestLabel (labels : List ℕ) (r : ℕ) : Type 0 where
-  pub above : (i : ℕ) → getD labels i 0 ≤ r
-  pub is-label : 0 < r → (i : ℕ) × (i < length labels) × (getD labels i 0 ≡ r)
-
 -- the sets of a table after set top have nothing
 abbrev pub NoneAbove : List ℕ → ℕ → Type 0
 NoneAbove a top = (x y : ℕ) → top < x → x < 256 → ¬ HasRow a x y

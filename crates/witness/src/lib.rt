@@ -5,6 +5,7 @@ mod reached;
 mod tables;
 
 use bits::byte;
+use bits::highest_byte;
 use chart::sets::cycle;
 use loop_checks::loops_check;
 use reached::unreached;
@@ -14,7 +15,6 @@ use report::Stage;
 use tables::collect;
 use tables::count_loops;
 use tables::join_later;
-use tables::top_label;
 ghost use mathlib.Core.Path.{_≡_};
 ghost use Rattle.chart.specs.Checks.{checkOf};
 ghost use Rattle.witness.specs.Labellings.{labelledOf};
@@ -55,7 +55,7 @@ pub fn check(body: &[u8], labels: &[u8]) -> Labelled
     if c < n {
         return Labelled::Refused(Place::BranchCycle(c));
     }
-    let top = top_label(labels);
+    let top = highest_byte(labels);
     let loops = count_loops(&high, top);
     join_later(&mut high, top);
     match loops_check(

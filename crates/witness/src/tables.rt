@@ -7,7 +7,7 @@ use bits::tables::put_row;
 use bits::tables::row;
 ghost use mathlib.Core.Path.{_≡_};
 ghost use mathlib.Core.List.{List};
-ghost use Prim.Native.Nat.{ℕ, min, max, _+_, _*_, _≤_, _<_};
+ghost use Prim.Native.Nat.{ℕ, min, _+_, _*_, _≤_, _<_};
 ghost use lib.ListN.{length};
 ghost use Rattle.bits.specs.Bits.{Bytes};
 ghost use Rattle.bits.specs.Tables.{Table, Gains, When};
@@ -15,7 +15,7 @@ ghost use Rattle.chart.specs.Bodies.{verticesOf};
 ghost use Rattle.chart.specs.Checks.{checkOf};
 ghost use Rattle.chart.specs.Steps.{StepsOf};
 ghost use Rattle.witness.specs.Given.{Given, Enters, EntersFrom, NoSteps, OutgoingOf, OutgoingWith};
-ghost use Rattle.witness.specs.Given.{Collected, HighestLabel, NoneAbove, InLater, sizesOf};
+ghost use Rattle.witness.specs.Given.{Collected, NoneAbove, InLater, sizesOf};
 ghost use Rattle.witness.specs.Labellings.{loopsOf};
 use report::Stage;
 
@@ -138,26 +138,6 @@ pub(crate) fn collect(
         low[u] = out.low;
         u += 1;
     }
-}
-
-// The greater of two labels.
-fn greater(a: u8, b: u8) -> u8
-    ensures { λ r. ⌜ r ≡ max a b ⌝ }
-{
-    if a < b { b } else { a }
-}
-
-// The highest label.
-pub(crate) fn top_label(labels: &[u8]) -> usize
-    ensures { λ r. ⌜ (r < 256) × HighestLabel (now (labels .entry)) r ⌝ }
-{
-    let mut top: u8 = 0;
-    let mut i: usize = 0;
-    while i < labels.len() {
-        top = greater(top, labels[i]);
-        i += 1;
-    }
-    top as usize
 }
 
 // How many numbers the sets of the levels 2 k and 2 k + 1 have. Those of most levels have none, which is seen at once.

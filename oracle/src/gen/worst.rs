@@ -1,4 +1,5 @@
-//! Files at the limits, each hard on one stage of the check. All are accepted.
+//! Files at the limits, each hard on one stage of the check, and removals at the
+//! limits. All files are accepted.
 use super::charts::chart_of;
 use super::expressions::{self, Shape};
 use super::relations;
@@ -302,4 +303,109 @@ pub(super) fn some(rng: &mut Rng) -> Yard {
             rng.between(1, 4) as u8,
         ),
     }
+}
+
+/// A loop that is to be taken out.
+#[derive(Clone, Debug)]
+pub struct Removal {
+    pub chart: Vec<u8>,
+    pub labels: Vec<u8>,
+    pub vertex: u8,
+    pub level: u8,
+    pub standing: Vec<u8>,
+}
+
+impl Removal {
+    /// All stands; what is missing of 8,192 transitions are branches to the
+    /// next lower vertex.
+    fn of(vertex: u8, level: u8, mut labelled: Labelled) -> Removal {
+        let downwards = (2..=127).rev().map(|v| step(v, 2, v - 1));
+        let missing = 8192 - labelled.len();
+        let new: Vec<Transition> = downwards
+            .filter(|t| !labelled.contains_key(t))
+            .take(missing)
+            .collect();
+        labelled.extend(new.into_iter().map(|t| (t, 0)));
+        let chart = chart_of(128, 127, labelled.keys().copied().collect());
+        Removal {
+            chart: chart.bytes(),
+            standing: vec![1; labelled.len()],
+            labels: labelled.into_values().collect(),
+            vertex,
+            level,
+        }
+    }
+
+    /// The loop's entries.
+    pub fn entries(&self) -> Vec<usize> {
+        let labels = self.labels.iter().enumerate();
+        let with_level = labels.filter(|(_, label)| **label == self.level);
+        with_level
+            .map(|(index, _)| index)
+            .filter(|index| self.chart[4 + 4 * index] == self.vertex)
+            .collect()
+    }
+}
+
+/// Every vertex branches to all lower ones; the loop of vertex 1 goes round by
+/// all of them. One step more.
+fn dense(more: Transition, label: u8) -> Removal {
+    let mut labelled = downwards(127, 127);
+    labelled.insert(more, label);
+    Removal::of(1, 127, labelled)
+}
+
+/// That chart, where nothing of vertex 1 stands any more; the loop is one of
+/// vertex 127, which nothing leads back to.
+fn without_return() -> Removal {
+    let mut labelled = downwards(127, 127);
+    for to in 63..127 {
+        labelled.insert(step(127, 2, to), 1);
+    }
+    let mut removal = Removal::of(127, 1, labelled);
+    removal.standing[..127].fill(0);
+    removal
+}
+
+/// 65 steps from each vertex to the next lower one, down to vertex 1 and by its
+/// loop up again; the last of them leads to `last`.
+fn chain(last: usize) -> Removal {
+    let mut labelled = Labelled::new();
+    for v in 2..=127 {
+        for action in 1..=65 {
+            labelled.insert(step(v, action, v - 1), 0);
+        }
+    }
+    labelled.remove(&step(2, 65, 1));
+    labelled.insert(step(2, 65, last), 0);
+    labelled.insert(step(1, 1, 127), 1);
+    labelled.insert(step(1, 2, 127), 1);
+    Removal::of(1, 1, labelled)
+}
+
+/// Each vertex goes round by itself at 64 levels.
+fn of_thousands(level: u8) -> Removal {
+    let mut labelled = Labelled::new();
+    for v in 1..=127 {
+        for action in 1..=64 {
+            labelled.insert(step(v, action, v), action);
+        }
+    }
+    Removal::of(127, level, labelled)
+}
+
+/// Removals from charts of 128 vertices and 8,192 transitions, each with its
+/// name: done, and refused by 51 and by 52 with each r.
+pub fn removals() -> Vec<(&'static str, Removal)> {
+    vec![
+        ("done dense", dense(step(127, 2, 1), 0)),
+        ("done chain", chain(1)),
+        ("done of thousands", of_thousands(64)),
+        ("refused 51", of_thousands(65)),
+        ("refused 52 r 1", without_return()),
+        // Half way through, whichever end a search begins at.
+        ("refused 52 r 2", dense(step(64, 1, 64), 1)),
+        ("refused 52 r 2 chain", chain(127)),
+        ("refused 52 r 3", dense(step(2, 1, 0), 0)),
+    ]
 }

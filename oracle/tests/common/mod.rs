@@ -45,6 +45,11 @@ pub fn chart(vertices: usize, start: usize, steps: &[(usize, u8, usize)]) -> Cha
     gen::charts::chart_of(vertices, start, steps.collect())
 }
 
+/// Document 01's chart of two loops, one inside the other.
+pub fn two_loops() -> Chart {
+    chart(3, 1, &[(1, 1, 2), (1, 3, 0), (2, 1, 2), (2, 2, 1)])
+}
+
 /// The chart of an accepted file.
 pub fn chart_of(yard: &Yard) -> Chart {
     Chart::read(&yard.chart).expect("an accepted file's chart")

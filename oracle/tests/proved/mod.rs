@@ -1,4 +1,5 @@
 //! The proved library's calls, over slices.
+#![allow(dead_code)]
 use oracle::Answer;
 
 #[cfg(library)]
@@ -6,6 +7,16 @@ use oracle::Answer;
 extern "C" {
     fn seq_check(file: *const u8, file_len: usize) -> Answer;
     fn seq_write_chart(nodes: *const u8, nodes_len: usize, out: *mut u8, out_len: usize) -> Answer;
+    fn seq_remove(
+        chart: *const u8,
+        chart_len: usize,
+        labels: *const u8,
+        labels_len: usize,
+        vertex: usize,
+        level: usize,
+        standing: *mut u8,
+        standing_len: usize,
+    ) -> Answer;
 }
 
 #[cfg(library)]
@@ -20,6 +31,23 @@ pub fn write_chart(nodes: &[u8], out: &mut [u8]) -> Answer {
     unsafe { seq_write_chart(nodes.as_ptr(), nodes.len(), out.as_mut_ptr(), out.len()) }
 }
 
+#[cfg(library)]
+pub fn remove(chart: &[u8], labels: &[u8], vertex: u64, level: u64, standing: &mut [u8]) -> Answer {
+    // SAFETY: as above; it writes to no bytes but those of `standing`.
+    unsafe {
+        seq_remove(
+            chart.as_ptr(),
+            chart.len(),
+            labels.as_ptr(),
+            labels.len(),
+            vertex as usize,
+            level as usize,
+            standing.as_mut_ptr(),
+            standing.len(),
+        )
+    }
+}
+
 #[cfg(not(library))]
 pub fn check(_: &[u8]) -> Answer {
     panic!("{MISSING}")
@@ -27,6 +55,11 @@ pub fn check(_: &[u8]) -> Answer {
 
 #[cfg(not(library))]
 pub fn write_chart(_: &[u8], _: &mut [u8]) -> Answer {
+    panic!("{MISSING}")
+}
+
+#[cfg(not(library))]
+pub fn remove(_: &[u8], _: &[u8], _: u64, _: u64, _: &mut [u8]) -> Answer {
     panic!("{MISSING}")
 }
 

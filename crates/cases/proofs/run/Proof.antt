@@ -7,10 +7,11 @@ use Rattle.cases.proofs.run.Statement.{statement}
 use Rattle.cases.proofs.run.Tie as tie
 
 abbrev Inv-loop : tie.InvT-loop
-Inv-loop table bytes₀ state₀ at₀ bytes state at = length bytes ≡ length bytes₀
+Inv-loop table bytes₀ standing₀ state₀ at₀ bytes standing state at =
+    (length bytes ≡ length bytes₀) × (length standing ≡ length standing₀)
 
 abbrev μ-loop : tie.MeasureT-loop
-μ-loop table bytes₀ state₀ at₀ bytes state at = length table - at
+μ-loop table bytes₀ standing₀ state₀ at₀ bytes standing state at = length table - at
 
 loop-holds : tie.Need-loop-holds Inv-loop μ-loop
 loop-holds c = search needs
@@ -33,6 +34,9 @@ loop-again c = search needs
 same-length : tie.Need-same-length Inv-loop μ-loop
 same-length c = search needs
 
+same-length-2 : tie.Need-same-length-2 Inv-loop μ-loop
+same-length-2 c = search needs
+
 returns : tie.Need-returns Inv-loop μ-loop
 returns c = search needs
 
@@ -49,4 +53,5 @@ run-spec =
     loop-less
     loop-again
     same-length
+    same-length-2
     returns)

@@ -72,14 +72,14 @@ returns-3 c =
     let C = b .cycle .ensures in
     sym (answer-32 _ _ w B long U (omega (arith, n, b .before .before .before .if2 .left)) (cycle-first w (tables .of-branches) (rw n at (C .first))) (omega (arith, n, c .if3 .taken)))
 
-top-label-requires : tie.Need-top-label-requires
-top-label-requires c κs = search needs
+highest-byte-requires : tie.Need-highest-byte-requires
+highest-byte-requires c κs = search needs
 
 count-loops-requires : tie.Need-count-loops-requires
 count-loops-requires c κs =
     let b = c .before .before .before in
     let g = b .before .before .before .before .before .before .before in
-    let t = c .before .top-label .ensures in
+    let t = c .before .highest-byte .ensures in
     (search needs, t .0, none-higher (g .collect .ensures .of-entered) (t .1))
 
 slice-aggregate-join-later : tie.Need-slice-aggregate-join-later
@@ -89,7 +89,7 @@ join-later-requires : tie.Need-join-later-requires
 join-later-requires c κs =
     let k = c .before .before .before in
     let g = k .before .before .before .before .before .before .before .before .before in
-    let t = k .top-label .ensures in
+    let t = k .highest-byte .ensures in
     (search needs, t .0, none-higher (g .collect .ensures .of-entered) (t .1))
 
 loops-check-requires : tie.Need-loops-check-requires
@@ -169,7 +169,7 @@ check-spec =
     returns-2
     cycle-requires
     returns-3
-    top-label-requires
+    highest-byte-requires
     count-loops-requires
     slice-aggregate-join-later
     join-later-requires

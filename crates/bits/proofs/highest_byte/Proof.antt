@@ -2,18 +2,18 @@ use Prim.Native.Nat.{_-_, _≤_, _<_}
 use native.Mathlib.Omega.{arith}
 use borrow.Author.Needs.{needs}
 use lib.ListN.{length}
-use Rattle.witness.proofs.Given.{HighestTo, highest-more, highest-all}
-use Rattle.witness.proofs.tables.top_label.Statement.{statement}
-use Rattle.witness.proofs.tables.top_label.Tie as tie
+use Rattle.bits.proofs.Highest.{HighestTo, highest-more, highest-all}
+use Rattle.bits.proofs.highest_byte.Statement.{statement}
+use Rattle.bits.proofs.highest_byte.Tie as tie
 
 abbrev Inv-loop : tie.InvT-loop
-Inv-loop labels top₀ i₀ top i = (i ≤ length labels) × (top < 256) × HighestTo labels i top
+Inv-loop bytes top₀ i₀ top i = (i ≤ length bytes) × (top < 256) × HighestTo bytes i top
 
 abbrev μ-loop : tie.MeasureT-loop
-μ-loop labels top₀ i₀ top i = length labels - i
+μ-loop bytes top₀ i₀ top i = length bytes - i
 
 loop-holds : tie.Need-loop-holds Inv-loop μ-loop
-loop-holds c = (omega arith, omega arith, record { above = λ j h. absurd (omega arith); is-label = λ h. absurd (omega arith) })
+loop-holds c = (omega arith, omega arith, record { above = λ j h. absurd (omega arith); is-byte = λ h. absurd (omega arith) })
 
 shared-slice-read-greater : tie.Need-shared-slice-read-greater Inv-loop μ-loop
 shared-slice-read-greater c = search needs
@@ -41,8 +41,8 @@ cast-result c = search needs
 returns : tie.Need-returns Inv-loop μ-loop
 returns c = let i = c .before .loop .inv in (i .1, highest-all (i .2) (omega (arith, i .0, c .loop-test .left)))
 
-pub top-label-spec : {M : Type 1} → statement M
-top-label-spec =
+pub highest-byte-spec : {M : Type 1} → statement M
+highest-byte-spec =
     tie.close
     (tie.spec
     Inv-loop
