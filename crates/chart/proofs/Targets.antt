@@ -1,0 +1,154 @@
+-- The targets of a set by an action, and the actions that it offers, gathered vertex by vertex.
+use Prim.Native.Nat.{ℕ, _+_, _≤_, _<_}
+use mathlib.Core.Path.{_≡_, refl, sym, _∙_, subst}
+use mathlib.Core.Logic.{_≢_, inl, inr, ⊎-elim, _↔_, by-cases}
+use mathlib.Core.Bool.{Bool, true, not, true≢false}
+use mathlib.Core.List.{List}
+use native.Mathlib.Decide.{ℕ-discrete, decLt}
+use native.Mathlib.Omega.{arith}
+use borrow.Author.Tests.{not-true}
+use lib.Dec.{eqb}
+use lib.ListN.{length, getD, set, length-set, replicate, List·getD-eq-default}
+use lib.Seq.{getD-set-same, getD-set-other}
+use Rattle.theory.specs.Tests.{Decides}
+use Rattle.theory.proofs.Tests.{decided, decides-same, decides-and, decides-eqb, decides-below}
+use Rattle.bits.specs.declared.sets.Set.{Set}
+use Rattle.bits.specs.First.{First, Split}
+use Rattle.bits.specs.Sets.{Has, emptySet, Empty, Members, Union, sizeOf}
+use Rattle.bits.proofs.Gains.{blank}
+use Rattle.bits.proofs.Members.{none, size-lt}
+use Rattle.chart.specs.Bodies.{countOf, fromOf, actionOf}
+use Rattle.chart.specs.Leaving.{FromBelow}
+use Rattle.chart.specs.Steps.{Acts, ActsOf}
+use Rattle.chart.specs.Images.{Image, ActsFrom, Offers, Marks, MarksMore}
+
+pub decides-acts : {body : List ℕ} {i b : ℕ} (a : ℕ) → b ≡ actionOf body i → Decides (eqb b a) (Acts body a i)
+decides-acts {b = b} a e = decides-same ((λ p. record { is = sym e ∙ p }), (λ q. e ∙ q .is)) (decides-eqb b a)
+
+-- THE TARGETS of the vertices of the set that are left no longer
+pub record ImageTo (b : List ℕ) (s left : Set) (a w : ℕ) : Type 0 where
+  pub from : ℕ
+  pub member : Has s from
+  pub past : ¬ Has left from
+  pub acts : ActsOf b from a w
+
+-- the lowest of what is left, and what is left without it
+pub record Turn (s left : Set) (u : ℕ) (fewer : Set) : Type 0 where
+  pub within : (x : ℕ) → Has left x → Has s x
+  pub has : Has left u
+  pub rest : (y : ℕ) → Has fewer y ↔ (Has left y × (y ≢ u))
+
+pub turn-less : {s left fewer : Set} {u : ℕ} → Turn s left u fewer → sizeOf fewer < sizeOf left
+turn-less {left = left} {fewer} {u} T = size-lt fewer left u (λ y h. T .rest y .0 h .0) (T .has) (λ h. T .rest u .0 h .1 refl)
+
+-- where something is left, the lowest is
+pub found : {left : Set} {u : ℕ} {b : Bool} → (b ≡ true) ↔ Empty left → not b ≡ true → First (Has left) 0 128 u → Has left u
+found {left} {u} E n F = by-cases (decLt u 128)
+    (λ h. F .holds h)
+    (λ h. absurd (true≢false (sym (E .1 (λ w g. F .before w (omega arith) (omega (arith, h, g .below)) g)) ∙ not-true _ n)))
+
+pub turned : {s left fewer : Set} {u : ℕ} → ((x : ℕ) → Has left x → Has s x) → Has left u → ((y : ℕ) → Has fewer y ↔ (Has left y × (y ≢ u)))
+    → Turn s left u fewer
+turned w h W = record { within = w; has = h; rest = W }
+
+module _ {b : List ℕ} {s : Set} {a : ℕ} where
+  pub image-none : {r : Set} → r ≡ emptySet → Members (ImageTo b s s a) r
+  image-none e = record { exactly = λ w h. ((λ g. absurd (none w (rw e at g))), (λ g. absurd (g .past (g .member)))) }
+
+  pub image-more : {left fewer t q r : Set} {u : ℕ} → Turn s left u fewer → Members (ImageTo b s left a) t → Members (ActsOf b u a) q → Union t q r
+      → Members (ImageTo b s fewer a) r
+  image-more {left} {fewer} {u = u} T M Q U = record {
+    exactly = λ w h. (
+      (λ g. ⊎-elim
+          (λ p. let e = M .exactly w h .0 p in record { from = e .from; member = e .member; past = λ z. e .past (T .rest _ .0 z .0); acts = e .acts })
+          (λ p. record { from = u; member = T .within u (T .has); past = λ z. T .rest u .0 z .1 refl; acts = Q .exactly w h .0 p })
+          (U w .0 g)),
+      (λ e. U w .1 (by-cases (ℕ-discrete (e .from) u)
+          (λ z. inr (Q .exactly w h .1 (subst (λ (x : ℕ). ActsOf b x a w) z (e .acts))))
+          (λ n. inl (M .exactly w h .1 (record { from = e .from; member = e .member; past = λ z. e .past (T .rest _ .1 (z, n)); acts = e .acts }))))),
+    );
+  }
+
+  pub image-all : {left r : Set} → Empty left → Members (ImageTo b s left a) r → Members (Image b s a) r
+  image-all E M = record { exactly = λ w h. ((λ g. let e = M .exactly w h .0 g in (e .from, e .member, e .acts)), (λ (u, m, k). M .exactly w h .1 (record { from = u; member = m; past = E u; acts = k }))) }
+
+-- THE MARKS of one vertex's actions, before transition i
+abbrev pub ActsBelow : List ℕ → ℕ → ℕ → ℕ → Type 0
+ActsBelow b u i a = (e : ActsFrom b u a) × (e .acts .at < i)
+
+module _ {b : List ℕ} {u : ℕ} where
+  pub marks-none : {i : ℕ} {m : List ℕ} → Split (FromBelow b u) (countOf b) i → MarksMore (ActsBelow b u i) m m
+  marks-none S = record { long = refl; marked = λ a h (e, l). absurd (omega (arith, S .below (e .acts .at) l .is, e .acts .leaves)); others = λ a n. refl }
+
+  pub marks-more : {i x : ℕ} {before after : List ℕ} → length before ≡ 256 → i < countOf b → fromOf b i ≡ u → x ≡ actionOf b i → x < 256
+      → MarksMore (ActsBelow b u i) before after → MarksMore (ActsBelow b u (i + 1)) before (set after x 1)
+  marks-more {i} {x} {before} {after} long h e k low M = record {
+    long = length-set after x 1 ∙ M .long;
+    marked = λ a l (f, g). by-cases (ℕ-discrete a x)
+        (λ z. here a z)
+        (λ z. there a z ∙ M .marked a l (f, below a f g z));
+    others = λ a n. by-cases (ℕ-discrete a x)
+        (λ z. absurd (n (record { to = _; acts = record { at = i; within = h; leaves = e; enters = refl; holds = record { is = sym k ∙ sym z } } }, omega arith)))
+        (λ z. there a z ∙ M .others a (λ (f, g). n (f, omega (arith, g))));
+  }
+    where
+      here : (a : ℕ) → a ≡ x → getD (set after x 1) a 0 ≡ 1
+      here a z = rw z (getD-set-same after x 1 0 (omega (arith, M .long, long, low)))
+
+      there : (a : ℕ) → a ≢ x → getD (set after x 1) a 0 ≡ getD after a 0
+      there a n = getD-set-other after x a 1 0 n
+
+      below : (a : ℕ) (f : ActsFrom b u a) → f .acts .at < i + 1 → a ≢ x → f .acts .at < i
+      below a f g n = by-cases (ℕ-discrete (f .acts .at) i)
+          (λ z. absurd (n (sym (f .acts .holds .is) ∙ subst (λ (j : ℕ). actionOf b j ≡ x) (sym z) (sym k))))
+          (λ z. omega (arith, g, z))
+
+  pub marks-all : {i end : ℕ} {before after : List ℕ} → Split (FromBelow b (u + 1)) (countOf b) end → end ≤ i → MarksMore (ActsBelow b u i) before after
+      → MarksMore (ActsFrom b u) before after
+  marks-all {i} S l M = record { long = M .long; marked = λ a h e. M .marked a h (e, early e); others = λ a n. M .others a (λ e. n (e .0)) }
+    where
+      early : {a : ℕ} (e : ActsFrom b u a) → e .acts .at < i
+      early e = by-cases (decLt (e .acts .at) i) (λ g. g) (λ g. absurd (S .above (e .acts .at) (omega (arith, g, l)) (e .acts .within) (record { is = omega (arith, e .acts .leaves) })))
+
+-- has u a transition with the action a?
+acts-from? : (b : List ℕ) (u a : ℕ) → Dec (ActsFrom b u a)
+acts-from? b u a = decided (decides-same (
+  (λ (i, h, (p, q)). record { to = _; acts = record { at = i; within = h; leaves = p; enters = refl; holds = record { is = q } } }),
+  (λ e. (e .acts .at, e .acts .within, (e .acts .leaves, e .acts .holds .is))),
+)
+    (decides-below (λ i. decides-and (decides-eqb (fromOf b i) u) (decides-eqb (actionOf b i) a)) (countOf b)))
+
+-- THE MARKS of a set's vertices that are left no longer
+pub record OffersTo (b : List ℕ) (s left : Set) (a : ℕ) : Type 0 where
+  pub from : ℕ
+  pub member : Has s from
+  pub past : ¬ Has left from
+  pub acts : ActsFrom b from a
+
+module _ {b : List ℕ} {s : Set} where
+  pub offers-none : Marks (OffersTo b s s) (replicate 256 0)
+  offers-none = record { long = refl; low = λ a. omega (arith, blank 256 a); exactly = λ a h. ((λ e. absurd (omega (arith, e, blank 256 a))), (λ e. absurd (e .past (e .member)))) }
+
+  pub offers-more : {left fewer : Set} {u : ℕ} {before after : List ℕ} → Turn s left u fewer → Marks (OffersTo b s left) before → MarksMore (ActsFrom b u) before after
+      → Marks (OffersTo b s fewer) after
+  offers-more {left} {fewer} {u} {before} {after} T M N = record {
+    long = N .long ∙ M .long;
+    low = low;
+    exactly = λ a h. (to a h, from a h);
+  }
+    where
+      low : (a : ℕ) → getD after a 0 ≤ 1
+      low a = by-cases (acts-from? b u a) (λ e. by-cases (decLt a 256) (λ h. omega (arith, N .marked a h e)) (λ h. omega (arith, List·getD-eq-default after 0 {n = a} (omega (arith, N .long, M .long, h))))) (λ e. omega (arith, N .others a e, M .low a))
+
+      to : (a : ℕ) → a < 256 → getD after a 0 ≡ 1 → OffersTo b s fewer a
+      to a h e = by-cases (acts-from? b u a)
+          (λ k. record { from = u; member = T .within u (T .has); past = λ z. T .rest u .0 z .1 refl; acts = k })
+          (λ k. let o = M .exactly a h .0 (sym (N .others a k) ∙ e) in record { from = o .from; member = o .member; past = λ z. o .past (T .rest _ .0 z .0); acts = o .acts })
+
+      from : (a : ℕ) → a < 256 → OffersTo b s fewer a → getD after a 0 ≡ 1
+      from a h o = by-cases (acts-from? b u a)
+          (λ k. N .marked a h k)
+          (λ k. N .others a k ∙ M .exactly a h .1 (record { from = o .from; member = o .member; past = λ z. o .past (T .rest _ .1 (z, λ y. k (subst (λ (x : ℕ). ActsFrom b x a) y (o .acts)))); acts = o .acts }))
+
+  pub offers-all : {left : Set} {marks : List ℕ} → Empty left → Marks (OffersTo b s left) marks → Marks (Offers b s) marks
+  offers-all E M = record { long = M .long; low = M .low; exactly = λ a h. ((λ g. let e = M .exactly a h .0 g in record { from = e .from; member = e .member; acts = e .acts }), (λ o. M .exactly a h .1 (record { from = o .from; member = o .member; past = E _; acts = o .acts }))) }

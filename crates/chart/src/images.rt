@@ -1,0 +1,76 @@
+// Where an action leads from a set of vertices, and which actions the set offers.
+use bits::Set;
+use bits::byte;
+use report::Stage;
+ghost use mathlib.Core.Path.{_≡_};
+ghost use Prim.Native.Nat.{_<_};
+ghost use lib.ListN.{length};
+ghost use Rattle.bits.specs.Sets.{Members};
+ghost use Rattle.chart.specs.Checks.{checkOf};
+ghost use Rattle.chart.specs.Leaving.{Begins};
+ghost use Rattle.chart.specs.Steps.{ActsOf};
+ghost use Rattle.chart.specs.Images.{Image, ActsFrom, Offers, Marks, MarksMore};
+
+// What the transitions of u with this action lead to.
+fn action_row(body: &[u8], begins: &[usize; 129], u: usize, action: usize) -> Set
+    requires { ⌜ (checkOf (now body) ≡ Stage.Passed) × Begins (now body) (now begins) × (u < 128) ⌝ }
+    ensures { λ r. ⌜ Members (ActsOf (now (body .entry)) u action) r ⌝ }
+{
+    let end = begins[u + 1];
+    let mut set = Set::empty();
+    let mut i = begins[u];
+    while i < end {
+        let acts = byte(body, 4 * i + 4 + 1) == action;
+        set = set.with_if(byte(body, 4 * i + 4 + 2), acts);
+        i += 1;
+    }
+    set
+}
+
+// All targets of the vertices of a set by an action.
+pub fn image(body: &[u8], begins: &[usize; 129], set: Set, action: usize) -> Set
+    requires { ⌜ (checkOf (now body) ≡ Stage.Passed) × Begins (now body) (now begins) ⌝ }
+    ensures { λ r. ⌜ Members (Image (now (body .entry)) set action) r ⌝ }
+{
+    let mut targets = Set::empty();
+    let mut left = set;
+    while !left.is_empty() {
+        let u = left.lowest();
+        targets = targets.union(action_row(body, begins, u, action));
+        left = left.without(u);
+    }
+    targets
+}
+
+// Marks the actions of the transitions of u.
+fn mark_row(body: &[u8], begins: &[usize; 129], u: usize, marks: &mut [u8; 256])
+    requires { ⌜ (checkOf (now body) ≡ Stage.Passed)
+        × Begins (now body) (now begins)
+        × (u < 128)
+        × (length (now marks) ≡ 256) ⌝ }
+    ensures { λ _. ⌜ MarksMore (ActsFrom (now (body .entry)) u)
+        (now (marks .entry)) (now (marks .exit)) ⌝ }
+{
+    let end = begins[u + 1];
+    let mut i = begins[u];
+    while i < end {
+        let action = byte(body, 4 * i + 4 + 1);
+        marks[action] = 1;
+        i += 1;
+    }
+}
+
+// The actions that the vertices of a set offer: a mark for each.
+pub fn offered(body: &[u8], begins: &[usize; 129], set: Set) -> [u8; 256]
+    requires { ⌜ (checkOf (now body) ≡ Stage.Passed) × Begins (now body) (now begins) ⌝ }
+    ensures { λ r. ⌜ Marks (Offers (now (body .entry)) set) r ⌝ }
+{
+    let mut marks = [0u8; 256];
+    let mut left = set;
+    while !left.is_empty() {
+        let u = left.lowest();
+        mark_row(body, begins, u, &mut marks);
+        left = left.without(u);
+    }
+    marks
+}
