@@ -9,7 +9,7 @@ use native.Mathlib.Omega.{arith}
 use lib.ListN.{length, getD}
 use lib.Seq.{ext-getD}
 use Rattle.theory.specs.Charts.{SameSteps, Loop}
-use Rattle.theory.specs.Standing.{Loops, Agree}
+use Rattle.theory.specs.Standing.{Loops, SameLoops, Agree}
 use Rattle.theory.specs.Removals.{done, Different, left-steps, left-loops}
 use Rattle.chart.specs.Bodies.{countOf, fromOf}
 use Rattle.chart.specs.Steps.{StepsOf, StandingOf}
@@ -51,6 +51,18 @@ module _ {body labels : List ℕ} where
       there i g =
           by-cases (ℕ-discrete (getD labels i 0) 0) inl
           (λ z. inr (omega arith, _, record { at = i; within = g; leaves = refl; enters = refl; holds = record { is = refl } }))
+
+  -- for a set and for every other with the same members
+  pub stands-same : {standing : List ℕ} {X Y : Loops} → SameLoops Y X → StandsFor body labels standing X
+      → StandsFor body labels standing Y
+  stands-same same h = record {
+    long = h .long;
+    marks = h .marks;
+    stands = λ i g. (
+      (λ e. ⊎-elim inl (λ x. inr (same _ _ .1 x)) (h .stands i g .0 e)),
+      (λ c. h .stands i g .1 (⊎-elim inl (λ y. inr (same _ _ .0 y)) c)),
+    );
+  }
 
   module _ {v l : ℕ} {before after : List ℕ} (t : TakenOut body labels v l before after) where
     -- A REMOVAL leaves the relation that the theory's does

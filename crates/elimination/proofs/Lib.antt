@@ -1,2 +1,3 @@
 -- The laws.
 pub mod Removals
+pub mod Lists

@@ -1,28 +1,228 @@
 -- The tests of a removal say what document 01 says, both ways; and what a call leaves of the standing bytes.
-use Prim.Native.Nat.{ℕ, suc, _+_, _<_}
+use Prim.Native.Nat.{ℕ, zero, suc, _+_, _<_}
 use mathlib.Core.Path.{_≡_, refl, sym, _∙_, ap, subst}
-use mathlib.Core.Logic.{_≢_, _⊎_, inl, inr, ⊎-elim, _↔_, by-cases}
-use mathlib.Core.Bool.{Bool, true, false, cond, _&&_, not}
+use mathlib.Core.Logic.{_≢_, ⊎-elim, _↔_, by-cases}
+use mathlib.Core.Bool.{Bool, cond, _&&_}
 use mathlib.Core.List.{List, [], _∷_}
 use native.Mathlib.Decide.{ℕ-discrete, decLe}
 use native.Mathlib.Omega.{arith}
-use lib.Dec.{eqb, ltb}
+use lib.Dec.{eqb}
 use lib.ListN.{length, getD}
 use borrow.Author.Tests.{eq-eqb, ne-eqb}
-use Rattle.theory.specs.Removals.{Answer, done, refused-51, refused-52, Removes, Different}
+use Rattle.theory.specs.Charts.{Formed, Loop}
+use Rattle.theory.specs.LoopCharts.{Around, LoopChart}
+use Rattle.theory.specs.Removals.{Answer, Removes}
 use Rattle.theory.specs.Tests.{Decides}
 use Rattle.theory.specs.RemovalTests.{ruleAnswer}
-use Rattle.theory.proofs.Tests.{not-so, decides-same, decides-and, decides-not, decides-eqb, decides-ltb, decides-below}
+use Rattle.theory.proofs.Tests.{decided, is-false, decides-same, decides-and, decides-not, decides-eqb, decides-ltb, decides-below}
 use Rattle.theory.proofs.RemovalTests.{rule-answer}
 use Rattle.theory.proofs.Removals.{one-answer}
 use Rattle.report.specs.declared.Removed.{Removed}
 use Rattle.report.specs.declared.Removed.the-variants.{Done, Refused, StandingBytes, NoEntry, NotLoop}
+use Rattle.report.specs.declared.Place.{Place}
 use Rattle.report.specs.declared.Place.the-variants as place
+use Rattle.report.specs.declared.Stage.{Stage}
 use Rattle.report.specs.declared.Stage.the-variants as stage
 use Rattle.bits.specs.Bits.{Bytes}
 use Rattle.chart.specs.Bodies.{verticesOf, countOf, fromOf, toOf, WellFormed}
 use Rattle.chart.specs.Checks.{checkOf}
 use Rattle.chart.specs.Steps.{StandingOf}
 use Rattle.chart.specs.Standing.{TakenOut}
-use Rattle.elimination.specs.Removals.{removedAs, standingTest, standsTest, ruledOf, removalOf, clearedFrom, leftOf}
+use Rattle.chart.proofs.Checks.{well-formed, passes, check-20, check-21}
+use Rattle.chart.proofs.Refusals.{refused-places}
+use Rattle.chart.proofs.Relations.{steps-formed, steps-listed, standing-step}
+use Rattle.elimination.specs.Removals.{removedAs, standingTest, whenDone, standsTest, ruledOf, removalOf, clearedFrom, leftOf}
 use Rattle.elimination.specs.RemovalAnswers.{StandingFits, Fits, RemovalAnswer, other-header, faulty-at, other-length, other-standing, ruled}
+
+-- the test of 50 decides what 50 asks
+pub tests-standing : (b standing : List ℕ) → Decides (standingTest b standing) (StandingFits b standing)
+unfolding standingTest
+tests-standing b standing =
+    decides-same (
+      (λ (long, none). record {
+        long = long;
+        marks = λ i h. by-cases (decLe (getD standing i 0) 1) (λ l. l) (λ l. absurd (none (i, h, omega arith)));
+      }),
+      (λ f. (f .long, λ (i, h, l). omega (arith, f .marks i h))),
+    )
+    (decides-and (decides-eqb (length standing) (countOf b))
+    (decides-not (decides-below (λ i. decides-ltb 1 (getD standing i 0)) (countOf b))))
+
+module _ (b labels standing : List ℕ) where
+  -- the test of a transition decides which stand
+  pub tests-stands : (u l w : ℕ) → Decides (standsTest b labels standing u l w) (StandingOf b labels standing u l w)
+  unfolding standsTest
+  tests-stands u l w =
+      decides-same (
+        (λ (i, h, (p, (q, (r, s)))). record { at = i; within = h; leaves = p; enters = r; holds = record { label = q; stands = s } }),
+        (λ s. (s .at, s .within, (s .leaves, (s .holds .label, (s .enters, s .holds .stands))))),
+      )
+      (decides-below (λ i.
+      decides-and (decides-eqb (fromOf b i) u)
+      (decides-and (decides-eqb (getD labels i 0) l)
+      (decides-and (decides-eqb (toOf b i) w) (decides-eqb (getD standing i 0) 1)))) (countOf b))
+
+  -- what stands is a chart's
+  pub standing-formed : WellFormed b → Formed (verticesOf b) (StandingOf b labels standing)
+  standing-formed W = record {
+    from-vertex = λ u l w s. steps-formed b labels W .from-vertex u l w (standing-step s);
+    to-vertex = λ u l w s. steps-formed b labels W .to-vertex u l w (standing-step s);
+  }
+
+  pub standing-labels : Bytes labels → (u l w : ℕ) → StandingOf b labels standing u l w → l < 256
+  standing-labels B u l w s = steps-listed b labels B .label-below u l w (standing-step s)
+
+-- THE STAGES of the answer to (v, l)
+module _ (b labels : List ℕ) (v l : ℕ) (standing : List ℕ) where
+  -- 20 and 21
+  pub removal-refused : (p : Place) → checkOf b ≡ stage.Refused p → removalOf b labels v l standing ≡ Refused p
+  unfolding removalOf
+  removal-refused p c = rw c
+
+  -- 30
+  pub removal-long : checkOf b ≡ stage.Passed → length labels ≢ countOf b
+      → removalOf b labels v l standing ≡ Refused (place.LabelsLength (length labels))
+  unfolding removalOf
+  removal-long c h = rw (c, ne-eqb (length labels) (countOf b) h)
+
+  -- 50
+  pub removal-standing : checkOf b ≡ stage.Passed → length labels ≡ countOf b → ¬ StandingFits b standing
+      → removalOf b labels v l standing ≡ StandingBytes
+  unfolding removalOf
+  removal-standing c h n = rw (c, eq-eqb (length labels) (countOf b) h, is-false (tests-standing b standing) n)
+
+  -- one of them refuses, or all pass
+  stages : {A : Type 0} → ((p : Place) → checkOf b ≡ stage.Refused p → A)
+      → (checkOf b ≡ stage.Passed → length labels ≢ countOf b → A)
+      → (checkOf b ≡ stage.Passed → length labels ≡ countOf b → ¬ StandingFits b standing → A)
+      → (Fits b labels standing → A) → A
+  stages {A} at-20 at-30 at-50 fits = go (checkOf b) refl
+    where
+      go : (x : Stage) → checkOf b ≡ x → A
+      go stage.Passed c =
+          by-cases (ℕ-discrete (length labels) (countOf b))
+          (λ h. by-cases (decided (tests-standing b standing))
+          (λ s. fits (record { formed = well-formed b c; each = h; marked = s }))
+          (at-50 c h))
+          (at-30 c)
+      go (stage.Refused p) c = at-20 p c
+
+  removal-fits : Fits b labels standing → removalOf b labels v l standing ≡ ruledOf b labels v l standing
+  unfolding removalOf
+  removal-fits f =
+      rw (passes b (f .formed), eq-eqb (length labels) (countOf b) (f .each), tests-standing b standing .1 (f .marked))
+
+  -- DONE, 51 AND 52: where the rest passes, the answer is the rule's
+  rule-says : Bytes labels → WellFormed b
+      → Removes (StandingOf b labels standing) v l (ruleAnswer (standsTest b labels standing) (verticesOf b) 256 v l)
+  rule-says B W =
+      rule-answer (tests-stands b labels standing) (standing-formed b labels standing W)
+      (standing-labels b labels standing B) v l
+
+  pub removal-ruled : Bytes labels → Fits b labels standing → {a : Answer} → Removes (StandingOf b labels standing) v l a
+      → removalOf b labels v l standing ≡ removedAs a
+  unfolding ruledOf
+  removal-ruled B f r = removal-fits f ∙ ap removedAs (one-answer (rule-says B (f .formed)) r)
+
+  pub done-fits : removalOf b labels v l standing ≡ Done → Fits b labels standing
+  done-fits e =
+      stages
+      (λ p c. let r = removal-refused p c in let z : _≡_ {A = ℕ} 0 1 = cc in absurd (omega arith))
+      (λ c h. let r = removal-long c h in let z : _≡_ {A = ℕ} 0 1 = cc in absurd (omega arith))
+      (λ c h n. let r = removal-standing c h n in let z : _≡_ {A = ℕ} 0 1 = cc in absurd (omega arith))
+      (λ f. f)
+
+  -- it is done only where the loop stands and is a loop chart
+  pub done-goes : Bytes labels → removalOf b labels v l standing ≡ Done
+      → Loop (StandingOf b labels standing) v l × LoopChart (Around (StandingOf b labels standing) v l) v
+  done-goes B e = go (rule-says B (done-fits e .formed)) (sym (removal-ruled B (done-fits e) (rule-says B (done-fits e .formed))) ∙ e)
+    where
+      go : {a : Answer} → Removes (StandingOf b labels standing) v l a → removedAs a ≡ Done
+          → Loop (StandingOf b labels standing) v l × LoopChart (Around (StandingOf b labels standing) v l) v
+      go (Removes.goes o c) q = (o, c)
+      go (Removes.absent h) q = let z : _≡_ {A = ℕ} 0 1 = cc in absurd (omega arith)
+      go (Removes.breaks-L1 o h) q = let z : _≡_ {A = ℕ} 0 1 = cc in absurd (omega arith)
+      go (Removes.breaks-L2 o p h) q = let z : _≡_ {A = ℕ} 0 1 = cc in absurd (omega arith)
+      go (Removes.breaks-L3 o p h s) q = let z : _≡_ {A = ℕ} 0 1 = cc in absurd (omega arith)
+
+  -- THE ANSWER IS a exactly where document 01 says so
+  module _ (B : Bytes labels) where
+    -- 20 and 21 are all that the check of the chart refuses
+    chart-answer : (p : Place) → checkOf b ≡ stage.Refused p → RemovalAnswer b labels v l standing (Refused p)
+    chart-answer p c =
+        ⊎-elim
+        (λ e. rw e (other-header (check-20 b .0 (rw e at c))))
+        (λ (i, e). let (h, f) = check-21 b i .0 (rw e at c) in rw e (faulty-at h f))
+        (refused-places b c)
+
+    removal-answer : RemovalAnswer b labels v l standing (removalOf b labels v l standing)
+    unfolding ruledOf
+    removal-answer =
+        stages
+        (λ p c. rw (removal-refused p c) (chart-answer p c))
+        (λ c h. rw (removal-long c h) (other-length (well-formed b c) h))
+        (λ c h n. rw (removal-standing c h n) (other-standing (well-formed b c) h n))
+        (λ f. rw (removal-fits f) (ruled f (rule-says B (f .formed))))
+
+    answer-removal : {a : Removed} → RemovalAnswer b labels v l standing a → removalOf b labels v l standing ≡ a
+    answer-removal (other-header h) = removal-refused _ (check-20 b .1 h)
+    answer-removal (faulty-at h f) = removal-refused _ (check-21 b _ .1 (h, f))
+    answer-removal (other-length W h) = removal-long (passes b W) h
+    answer-removal (other-standing W h n) = removal-standing (passes b W) h n
+    answer-removal (ruled f r) = removal-ruled B f r
+
+    pub removal-says : (a : Removed) → (removalOf b labels v l standing ≡ a) ↔ RemovalAnswer b labels v l standing a
+    removal-says a = ((λ e. subst (RemovalAnswer b labels v l standing) e removal-answer), answer-removal)
+
+-- THE STANDING BYTES after the call
+module _ (b labels : List ℕ) (v l : ℕ) where
+  -- transition i leaves v with the label l
+  abbrev entryTest : ℕ → Bool
+  entryTest i = eqb (fromOf b i) v && eqb (getD labels i 0) l
+
+  cleared-length : (i : ℕ) (ss : List ℕ) → length (clearedFrom b labels v l i ss) ≡ length ss
+  unfolding clearedFrom
+  cleared-length i [] = refl
+  cleared-length i (s ∷ ss) = ap suc (cleared-length (suc i) ss)
+
+  cleared-at : (i : ℕ) (ss : List ℕ) (k : ℕ) → k < length ss
+      → getD (clearedFrom b labels v l i ss) k 0 ≡ cond (entryTest (i + k)) 0 (getD ss k 0)
+  unfolding clearedFrom
+  cleared-at i [] k h = absurd (omega arith)
+  cleared-at i (s ∷ ss) zero h = ap (λ (j : ℕ). cond (entryTest j) 0 s) (omega arith)
+  cleared-at i (s ∷ ss) (suc k) h = cleared-at (suc i) ss k (omega arith) ∙ ap (λ (j : ℕ). cond (entryTest j) 0 (getD ss k 0)) (omega arith)
+
+  pub cleared-taken : (standing : List ℕ) → length standing ≡ countOf b
+      → TakenOut b labels v l standing (clearedFrom b labels v l 0 standing)
+  cleared-taken standing long = record {
+    long = cleared-length 0 standing;
+    gone = λ i h p q. at i h ∙ ap (λ (x : Bool). cond x 0 (getD standing i 0)) (decides-entry i .1 (p, q));
+    kept = λ i h d. at i h ∙ ap (λ (x : Bool). cond x 0 (getD standing i 0)) (is-false (decides-entry i) d);
+  }
+    where
+      at : (i : ℕ) → i < countOf b → getD (clearedFrom b labels v l 0 standing) i 0 ≡ cond (entryTest i) 0 (getD standing i 0)
+      at i h = cleared-at 0 standing i (omega (arith, long)) ∙ ap (λ (j : ℕ). cond (entryTest j) 0 (getD standing i 0)) (omega arith)
+
+      decides-entry : (i : ℕ) → Decides (entryTest i) ((fromOf b i ≡ v) × (getD labels i 0 ≡ l))
+      decides-entry i = decides-and (decides-eqb (fromOf b i) v) (decides-eqb (getD labels i 0) l)
+
+  pub left-done : (standing : List ℕ) → removalOf b labels v l standing ≡ Done
+      → leftOf b labels v l standing ≡ clearedFrom b labels v l 0 standing
+  unfolding leftOf
+  left-done standing e = rw e
+
+  pub left-kept : (standing : List ℕ) → removalOf b labels v l standing ≢ Done → leftOf b labels v l standing ≡ standing
+  unfolding leftOf
+  left-kept standing h = go (removalOf b labels v l standing) h
+    where
+      go : (a : Removed) → a ≢ Done → whenDone a (clearedFrom b labels v l 0 standing) standing ≡ standing
+      go Done n = absurd (n refl)
+      go (Refused p) n = refl
+      go StandingBytes n = refl
+      go (NoEntry u m) n = refl
+      go (NotLoop u m r) n = refl
+
+  -- done: exactly the entries of the loop are gone
+  pub done-leaves : (standing : List ℕ) → removalOf b labels v l standing ≡ Done
+      → TakenOut b labels v l standing (leftOf b labels v l standing)
+  done-leaves standing e = rw (left-done standing e) (cleared-taken standing (done-fits b labels v l standing e .marked .long))

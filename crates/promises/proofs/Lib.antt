@@ -1,4 +1,5 @@
 -- The proofs of the demands.
 pub mod Demand1
 pub mod Demand2
+pub mod Demand3
 pub mod Accepted

@@ -1,6 +1,8 @@
 -- The demands as statements: all of it is meaning, there is no test here and nothing that only serves proofs.
--- each answer of the check and of the expression's chart, by its number
+-- each answer of the check, of the expression's chart and of a removal, by its number
 pub mod Demand1
 pub mod Demand2
+-- of removals
+pub mod Demand3
 -- what an accepted file is
 pub mod Accepted

@@ -5,9 +5,10 @@ use Prim.Native.Nat.{ℕ, suc}
 use lib.Dec.{eqb}
 use lib.ListN.{length, replicate}
 use Rattle.report.specs.declared.Numbers.{Numbers}
-use Rattle.report.specs.Numbers.{four, verdictNumbers, writtenNumbers}
+use Rattle.report.specs.Numbers.{four, verdictNumbers, writtenNumbers, removedNumbers}
 use Rattle.expression.specs.Body.{writtenOf, bufferOf}
 use Rattle.witness.specs.Labellings.{labelledOf}
+use Rattle.elimination.specs.Removals.{removalOf, leftOf}
 use Rattle.verdict.specs.Verdicts.{onLoops, accepted, verdictOf}
 
 pub data Case : Type 0 where
@@ -17,6 +18,8 @@ pub data Case : Type 0 where
   labels : (body labelling : List ℕ) (answer : Numbers) → Case
   -- the expression's chart of some nodes, written to lent bytes: the answer's four numbers, and the lent bytes after it
   writes : (nodes lent : List ℕ) (answer : Numbers) (left : List ℕ) → Case
+  -- taking out a loop, of a chart body and a labelling, from lent standing bytes: the same
+  removes : (body labelling : List ℕ) (v level : ℕ) (standing : List ℕ) (answer : Numbers) (left : List ℕ) → Case
 
 abbrev pub sameNumbers : Numbers → Numbers → Bool
 sameNumbers a b = eqb (a .n) (b .n) && eqb (a .p) (b .p) && eqb (a .q) (b .q) && eqb (a .r) (b .r)
@@ -34,6 +37,9 @@ holds (labels body labelling answer) =
 holds (writes nodes lent answer left) =
     sameNumbers (writtenNumbers (writtenOf nodes (length lent))) answer
     && sameBytes (bufferOf nodes lent) left
+holds (removes body labelling v level standing answer left) =
+    sameNumbers (removedNumbers (removalOf body labelling v level standing)) answer
+    && sameBytes (leftOf body labelling v level standing) left
 
 abbrev pub allHold : List Case → Bool
 allHold [] = true
@@ -88,6 +94,13 @@ nested =
     ∷ 0x02 ∷ 0x01 ∷ 0x02 ∷ 0x00
     ∷ 0x02 ∷ 0x02 ∷ 0x01 ∷ 0x00 ∷ []
 
+unfoldable pub nestedLabels : List ℕ
+nestedLabels = 0x02 ∷ 0x00 ∷ 0x01 ∷ 0x00 ∷ []
+
+-- four standing bytes
+abbrev pub standing : ℕ → ℕ → ℕ → ℕ → List ℕ
+standing a b c d = a ∷ b ∷ c ∷ d ∷ []
+
 unfoldable pub labelsG : List ℕ
 labelsG = 0x01 ∷ 0x00 ∷ []
 
@@ -128,7 +141,7 @@ cases =
     ∷ checks (fileG nodesTwice labelsG 0x01 0x02) (four 12 0 2 0)
     -- the chart of two nested loops with labels 1 0 1 0: a loop of equal level inside, at vertex 2
     ∷ labels nested (0x01 ∷ 0x00 ∷ 0x01 ∷ 0x00 ∷ []) (four 35 1 1 2)
-    ∷ labels nested (0x02 ∷ 0x00 ∷ 0x01 ∷ 0x00 ∷ []) (four 0 3 4 2)
+    ∷ labels nested nestedLabels (four 0 3 4 2)
     -- G's expression chart; the two lent bytes past it are kept
     ∷ writes nodesG (replicate 22 0xAA) (four 0 20 0 0) (writtenG ++ 0xAA ∷ 0xAA ∷ [])
     -- a lent byte too few: refused 54 with the bytes needed, and nothing lent is touched
@@ -137,4 +150,17 @@ cases =
     ∷ writes nodesTwice (replicate 20 0xAA) (four 12 0 2 0) (replicate 20 0xAA)
     -- a + a has one transition
     ∷ writes nodesSum (replicate 16 0xAA) (four 0 16 0 0) writtenSum
+    -- two nested loops, all standing: the outer one breaks L2; the inner one goes, and then the outer one
+    ∷ removes nested nestedLabels 1 2 (standing 1 1 1 1) (four 52 1 2 2) (standing 1 1 1 1)
+    ∷ removes nested nestedLabels 2 1 (standing 1 1 1 1) (four 0 0 0 0) (standing 1 1 0 1)
+    ∷ removes nested nestedLabels 1 2 (standing 1 1 0 1) (four 0 0 0 0) (standing 0 1 0 1)
+    -- a loop that is gone, and branches, which have no level
+    ∷ removes nested nestedLabels 2 1 (standing 1 1 0 1) (four 51 2 1 0) (standing 1 1 0 1)
+    ∷ removes nested nestedLabels 2 0 (standing 1 1 1 1) (four 51 2 0 0) (standing 1 1 1 1)
+    -- no way on from vertex 2: L1 is broken; an entry that leads to the end: L3
+    ∷ removes nested nestedLabels 1 2 (standing 1 1 0 0) (four 52 1 2 1) (standing 1 1 0 0)
+    ∷ removes chartG (0x01 ∷ 0x01 ∷ []) 1 1 (1 ∷ 1 ∷ []) (four 52 1 1 3) (1 ∷ 1 ∷ [])
+    -- a standing byte that is neither 0 nor 1; one too few
+    ∷ removes nested nestedLabels 2 1 (standing 1 1 1 2) (four 50 0 0 0) (standing 1 1 1 2)
+    ∷ removes nested nestedLabels 2 1 (1 ∷ 1 ∷ 1 ∷ []) (four 50 0 0 0) (1 ∷ 1 ∷ 1 ∷ [])
     ∷ []

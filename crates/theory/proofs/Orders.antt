@@ -54,6 +54,18 @@ plain-order ((v, l) ∷ xs) c =
     let (Y, p, e) = plain-order xs (rest-waits c) in
     (Y, PlainAll.call (Plain.goes ((c .same v l) .1 (List·Memᴰ·head refl)) (first-free c)) (λ u m. Iff·rfl) p, e)
 
+order-waits : {S : Steps} (xs : List Pair) → Order S xs → Waiting S (Loop S) xs
+order-waits xs order = record {
+  same = λ v l. (order .loops .every v l, order .loops .only v l);
+  once = order .loops .once;
+  waits = λ v l w m i j. order .waits v l w m (order .loops .only v l i) (order .loops .only w m j);
+}
+
+-- the plain set lets an order through, and is empty after it
+pub order-plain : {S : Steps} (xs : List Pair) → Order S xs
+    → (Y : Loops) × PlainAll S (Loop S) xs (all-done xs) Y × ((v l : ℕ) → ¬ Y v l)
+order-plain xs order = plain-order xs (order-waits xs order)
+
 module _ {size : ℕ} {S : Steps} (formed : Formed size S) (passed : Passed S) where
   -- where the plain set has answers, the rule has the same
   pub rules-of : {X Y : Loops} {R : Steps} → ((v l : ℕ) → X v l → Loop S v l) → Agree S X R → {cs : List Pair} {ys : List Answer} → PlainAll S X cs ys Y → (Q : Steps) × RemovesAll R cs ys Q × Agree S Y Q
@@ -63,36 +75,31 @@ module _ {size : ℕ} {S : Steps} (formed : Formed size S) (passed : Passed S) w
       let (Q, q, g) = rules-of (λ u m x. left-loops-are formed passed loops agree v l a u m (stay u m .0 x)) here ps in
       (Q, RemovesAll.call (rule-of formed passed loops agree v l p) (λ u m w. Iff·rfl) q, g)
 
-  module _ (xs : List Pair) (order : Order S xs) where
-    order-waits : Waiting S (Loop S) xs
-    order-waits = record {
-      same = λ v l. (order .loops .every v l, order .loops .only v l);
-      once = order .loops .once;
-      waits = λ v l w m i j. order .waits v l w m (order .loops .only v l i) (order .loops .only w m j);
-    }
+  -- where no loop remains exactly the branches stand, and no vertex has an infinite path
+  module _ {Y : Loops} {Q : Steps} (agree : Agree S Y Q) (none-left : (v l : ℕ) → ¬ Y v l) where
+    pub only-branches : (u l w : ℕ) → Q u l w ↔ (S u l w × (l ≡ 0))
+    only-branches u l w = (
+      (λ e. let (s, c) = (agree u l w) .0 e in (s, ⊎-elim (λ z. z) (λ y. absurd (none-left u l y)) c)),
+      (λ (s, z). (agree u l w) .1 (s, inl z)),
+    )
 
+    branch : (u w : ℕ) → Any Q u w → Branch S u w
+    branch u w (l, e) = let (s, z) = (only-branches u l w) .0 e in rw z at s
+
+    pub no-endless : (v : ℕ) → ¬ Endless (Any Q) v
+    no-endless v p = passed-no-endless formed passed v (endless-map branch p)
+
+  module _ (xs : List Pair) (order : Order S xs) where
     -- an order runs with no refusal
     pub order-runs : (Q : Steps) × RemovesAll S xs (all-done xs) Q
-    order-runs = let (Y, p, e) = plain-order xs order-waits in let (Q, q, g) = rules-of (λ v l o. o) (agree-at-first S) p in (Q, q)
+    order-runs = let (Y, p, e) = order-plain xs order in let (Q, q, g) = rules-of (λ v l o. o) (agree-at-first S) p in (Q, q)
 
     -- whatever way it is run: no refusal, exactly the branches are left, and no vertex has an infinite path
     pub order-leaves : {ys : List Answer} {Q : Steps} → RemovesAll S xs ys Q → (ys ≡ all-done xs) × ((u l w : ℕ) → Q u l w ↔ (S u l w × (l ≡ 0))) × ((v : ℕ) → ¬ Endless (Any Q) v)
-    order-leaves {ys} {Q} r = go (plain-order xs order-waits)
-      where
-        go : (Y : Loops) × PlainAll S (Loop S) xs (all-done xs) Y × ((v l : ℕ) → ¬ Y v l) → (ys ≡ all-done xs) × ((u l w : ℕ) → Q u l w ↔ (S u l w × (l ≡ 0))) × ((v : ℕ) → ¬ Endless (Any Q) v)
-        go (Y, p, none-left) = (both .0, left, λ v q. passed-no-endless formed passed v (endless-map branch q))
-          where
-            both : (ys ≡ all-done xs) × Agree S Y Q
-            both = removals-agree formed passed (λ v l o. o) (agree-at-first S) r p
-
-            left : (u l w : ℕ) → Q u l w ↔ (S u l w × (l ≡ 0))
-            left u l w = (
-              (λ e. let (s, c) = (both .1 u l w) .0 e in (s, ⊎-elim (λ z. z) (λ y. absurd (none-left u l y)) c)),
-              (λ (s, z). (both .1 u l w) .1 (s, inl z)),
-            )
-
-            branch : (u w : ℕ) → Any Q u w → Branch S u w
-            branch u w (l, e) = let (s, z) = (left u l w) .0 e in rw z at s
+    order-leaves r =
+        let (Y, p, none-left) = order-plain xs order in
+        let (e, agree) = removals-agree formed passed (λ v l o. o) (agree-at-first S) r p in
+        (e, only-branches agree none-left, no-endless agree none-left)
 
 -- AN ORDER EXISTS: by level, and by vertex in each level
 swap : Pair → Pair

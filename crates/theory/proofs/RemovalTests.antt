@@ -14,7 +14,7 @@ use Rattle.theory.specs.Tests.{Decides}
 use Rattle.theory.specs.LabellingTests.{StepTest, loopTest}
 use Rattle.theory.specs.RemovalTests.{aroundTest, strayTest, ruleAnswer, insideTest, plainAnswer}
 use Rattle.theory.proofs.Paths.{plus-below}
-use Rattle.theory.proofs.Tests.{decides-dec, test-of, not-so, decides-same, decides-and, decides-or, decides-not, decides-eqb, decides-below}
+use Rattle.theory.proofs.Tests.{decided, decides-dec, test-of, not-so, decides-same, decides-and, decides-or, decides-not, decides-eqb, decides-below}
 use Rattle.theory.proofs.Reachability.{decides-plus}
 use Rattle.theory.proofs.Rounds.{body-iff, round-below, round-L1, round-L2, round-L3}
 use Rattle.theory.proofs.Checks.{loop-to, loop-not-end}
@@ -98,14 +98,28 @@ rule-answers {size} {top} {R} f g ((v, l) ∷ cs) =
     let (xs, Q, ps) = rule-answers {R = left-steps a v l R} (left-formed v l a f) (left-listed v l a g) cs in
     (a ∷ xs, Q, RemovesAll.call (rule-answer (listed-tests f g) f (g .label-below) v l) (λ u m w. Iff·rfl) ps)
 
-left-decided : {S : Steps} {X : Loops} (v l : ℕ) (a : Answer) → DecidedLoops S X → DecidedLoops S (left-loops a v l X)
+pub left-decided : {S : Steps} {X : Loops} (v l : ℕ) (a : Answer) → DecidedLoops S X → DecidedLoops S (left-loops a v l X)
 left-decided v l done k = record { loops = λ u m x. k .loops u m (x .0); member = λ u m. apart-too (k .member u m) v l u m }
 left-decided v l (refused-51 p q) k = k
 left-decided v l (refused-52 p q r) k = k
 
+pub all-decided : {size top : ℕ} {S : Steps} → Formed size S → Listed top S → DecidedLoops S (Loop S)
+all-decided f g = record {
+  loops = λ v l o. o;
+  member = λ v l. decided (decides-loop (listed-tests f g) f (g .label-below) v l);
+}
+
+-- of one call, and of a list
+pub plain-call : {size top : ℕ} {S : Steps} → Formed size S → Listed top S → {X : Loops} → DecidedLoops S X
+    → (v l : ℕ) → (a : Answer) × Plain S X v l a
+plain-call {size} {top} f g k v l = (
+  plainAnswer (listed-test f g) size top (λ w m. test-of (k .member w m)) v l,
+  plain-answer (listed-tests f g) f (g .label-below) (λ w m. decides-dec (k .member w m)) (k .loops) v l,
+)
+
 pub plain-answers : {size top : ℕ} {S : Steps} → Formed size S → Listed top S → {X : Loops} → DecidedLoops S X → (cs : List (ℕ × ℕ)) → (ys : List Answer) × (Y : Loops) × PlainAll S X cs ys Y
 plain-answers f g {X} k [] = ([], X, PlainAll.none)
-plain-answers {size} {top} f g {X} k ((v, l) ∷ cs) =
-    let a : Answer = plainAnswer (listed-test f g) size top (λ w m. test-of (k .member w m)) v l in
+plain-answers f g {X} k ((v, l) ∷ cs) =
+    let (a, p) = plain-call f g k v l in
     let (ys, Y, ps) = plain-answers f g {X = left-loops a v l X} (left-decided v l a k) cs in
-    (a ∷ ys, Y, PlainAll.call (plain-answer (listed-tests f g) f (g .label-below) (λ w m. decides-dec (k .member w m)) (k .loops) v l) (λ u m. Iff·rfl) ps)
+    (a ∷ ys, Y, PlainAll.call p (λ u m. Iff·rfl) ps)

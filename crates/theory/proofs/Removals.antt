@@ -9,7 +9,7 @@ use Rattle.theory.specs.Paths.{Star, Endless, Returns}
 use Rattle.theory.specs.Charts.{Steps, SameSteps, Formed, Loop}
 use Rattle.theory.specs.LoopCharts.{Around}
 use Rattle.theory.specs.Checks.{Passed}
-use Rattle.theory.specs.Standing.{Loops, SameLoops, Standing, Agree}
+use Rattle.theory.specs.Standing.{Loops, SameLoops, Standing, Agree, Inside}
 use Rattle.theory.specs.Removals.{Answer, done, refused-51, refused-52, Removes, Plain, left-steps, left-loops, RemovesAll, PlainAll}
 use Rattle.theory.proofs.Paths.{endless-map}
 use Rattle.theory.proofs.Rounds.{round-map, loop-chart-map}
@@ -58,6 +58,12 @@ module _ {size : ℕ} {S : Steps} (formed : Formed size S) (passed : Passed S) w
     left-loops-are done u m x = loops u m (x .0)
     left-loops-are (refused-51 p q) u m x = loops u m x
     left-loops-are (refused-52 p q r) u m x = loops u m x
+
+-- the plain set says done exactly when the loop is in it and none of it starts inside
+pub plain-done : {S : Steps} {X : Loops} {v l : ℕ} {a : Answer} → Plain S X v l a → (a ≡ done) ↔ (X v l × ¬ Inside S X v l)
+plain-done (Plain.absent h) = ((λ e. let z : _≡_ {A = ℕ} 0 1 = cc in absurd (omega arith)), (λ (x, n). absurd (h x)))
+plain-done (Plain.inner x i) = ((λ e. let z : _≡_ {A = ℕ} 0 1 = cc in absurd (omega arith)), (λ (y, n). absurd (n i)))
+plain-done (Plain.goes x n) = ((λ e. (x, n)), (λ y. refl))
 
 -- THE RULE HAS ONE ANSWER: x where P fails, else A's
 One : (Answer → Type 0) → Type 0

@@ -1,0 +1,116 @@
+-- Demand 3, of removals, proved.
+use mathlib.Core.Path.{_≡_, refl, _∙_}
+use mathlib.Core.Logic.{_≢_, inl, ⊎-elim, by-cases}
+use mathlib.Core.List.{List, [], _∷_, map, map-map}
+use Prim.Native.Nat.{ℕ, zero, suc, _<_}
+use native.Mathlib.Decide.{ℕ-discrete}
+use native.Mathlib.Omega.{arith}
+use lib.ListN.{length, getD, length-replicate, getD-replicate, length-map}
+use borrow.Author.Tests.{eq-eqb, ne-eqb}
+use Rattle.theory.specs.Charts.{Loop}
+use Rattle.theory.specs.Standing.{Loops, DecidedLoops}
+use Rattle.theory.specs.Orders.{Pair, Order}
+use Rattle.theory.proofs.Checks.{passed-iff-witness}
+use Rattle.theory.proofs.Removals.{plain-done}
+use Rattle.theory.proofs.RemovalTests.{all-decided, left-decided, plain-call, plain-answers}
+use Rattle.theory.proofs.Orders.{order-plain, order-exists, no-endless}
+use Rattle.report.specs.declared.Verdict.the-variants.{Accepted}
+use Rattle.bits.specs.Bits.{Bytes}
+use Rattle.chart.specs.Bodies.{startOf, countOf}
+use Rattle.chart.specs.Steps.{StepsOf}
+use Rattle.chart.specs.Standing.{StandsFor}
+use Rattle.chart.proofs.Checks.{well-formed}
+use Rattle.chart.proofs.Relations.{steps-formed}
+use Rattle.chart.proofs.Standing.{stands-agree, all-stand, one-standing}
+use Rattle.witness.proofs.Labellings.{labelled-iff-witness}
+use Rattle.elimination.specs.Removals.{removedAs}
+use Rattle.elimination.proofs.Lists.{Passing, formed, listed, call-answers, call-stands, calls-agree}
+use Rattle.verdict.specs.Verdicts.{chartIn, labelsIn, verdictOf}
+use Rattle.verdict.proofs.Verdicts.{accepted-iff}
+use Rattle.promises.specs.Demand1.{stepsIn}
+use Rattle.promises.specs.Demand3.{allStanding, EachRemoval, ended, call, AgainstPlainSet, OrderExists, branchByte, RunsThrough}
+use Rattle.promises.proofs.Accepted.{part-bytes}
+
+-- BRANCH BYTES, which stand for no loop
+branch-at : (labels : List ℕ) (i : ℕ) → i < length labels → getD (map branchByte labels) i 0 ≡ branchByte (getD labels i 0)
+branch-at [] i h = absurd (omega arith)
+branch-at (x ∷ xs) zero h = refl
+branch-at (x ∷ xs) (suc i) h = branch-at xs i (omega arith)
+
+branches-stand : (b labels : List ℕ) {Y : Loops} → length labels ≡ countOf b → ((v l : ℕ) → ¬ Y v l)
+    → StandsFor b labels (map branchByte labels) Y
+branches-stand b labels {Y} each none = record {
+  long = length-map labels branchByte ∙ each;
+  marks = λ i h. by-cases (ℕ-discrete (getD labels i 0) 0) (λ z. omega (arith, branch i h z)) (λ n. omega (arith, entry i h n));
+  stands = λ i h. (
+    (λ e. by-cases (ℕ-discrete (getD labels i 0) 0) inl (λ n. absurd (omega (arith, entry i h n)))),
+    (λ c. ⊎-elim (branch i h) (λ y. absurd (none _ _ y)) c),
+  );
+}
+  where
+    branch : (i : ℕ) → i < countOf b → getD labels i 0 ≡ 0 → getD (map branchByte labels) i 0 ≡ 1
+    branch i h z = branch-at labels i (omega (arith, each)) ∙ rw (eq-eqb (getD labels i 0) 0 z)
+
+    entry : (i : ℕ) → i < countOf b → getD labels i 0 ≢ 0 → getD (map branchByte labels) i 0 ≡ 0
+    entry i h n = branch-at labels i (omega (arith, each)) ∙ rw (ne-eqb (getD labels i 0) 0 n)
+
+-- BESIDE A CHART AND LABELS THAT PASS
+module _ {b labels : List ℕ} (c : Passing b labels) where
+  all-loops : DecidedLoops (StepsOf b labels) (Loop (StepsOf b labels))
+  all-loops = all-decided (formed c) (listed c)
+
+  at-first : StandsFor b labels (allStanding b) (Loop (StepsOf b labels))
+  at-first = all-stand (length-replicate (countOf b) 1) (λ i h. getD-replicate (countOf b) i 1 0 h)
+
+  each-from : {X : Loops} {standing : List ℕ} → DecidedLoops (StepsOf b labels) X → StandsFor b labels standing X
+      → (calls : List Pair) → EachRemoval b labels standing X calls
+  each-from k h [] = ended h
+  each-from k h ((v, l) ∷ calls) =
+      let (a, p) = plain-call (formed c) (listed c) k v l in
+      call h (call-answers c (k .loops) h v l p) (plain-done p)
+      (each-from (left-decided v l a k) (call-stands c (k .loops) h v l a p) calls)
+
+  against : (calls : List Pair) → AgainstPlainSet b labels calls
+  against calls = record {
+    same = λ ys Y p. let (e, s) = calls-agree c (λ v l o. o) at-first p in record { answers = e; stands = s };
+    answered = plain-answers (formed c) (listed c) all-loops calls;
+  }
+
+  runs-through : (xs : List Pair) → Order (StepsOf b labels) xs → RunsThrough b labels xs
+  runs-through xs order =
+      let (Y, p, none) = order-plain xs order in
+      let (e, s) = calls-agree c (λ v l o. o) at-first p in
+      record {
+        no-refusal = e ∙ map-map removedAs _ xs;
+        branches = one-standing s (branches-stand b labels (c .each) none);
+        no-endless = no-endless (formed c) (c .passed) (stands-agree s) none;
+      }
+
+-- OF ANY ACCEPTED FILE
+module _ (f : List ℕ) (bytes : Bytes f) {v t l : ℕ} (accepted : verdictOf f ≡ Accepted v t l) where
+  passing : Passing (chartIn f) (labelsIn f)
+  passing =
+      let (r, n, c, p, q, v′, t′) = accepted-iff f v t l .0 accepted in
+      let B = part-bytes f 2 bytes in
+      let W = well-formed (chartIn f) c in
+      let (each, conn, wit) = labelled-iff-witness (chartIn f) (labelsIn f) c B .0 (l, p) in
+      let passed = passed-iff-witness (steps-formed (chartIn f) (labelsIn f) W) (startOf (chartIn f)) conn .1 wit in
+      record { bytes = B; body = W; each = each; passed = passed }
+
+  -- a removal is done exactly when its loop still stands and none stands that starts inside its body, its own start aside;
+  -- after the list exactly the branches and the entries of loops not taken out stand
+  pub each-removal : (calls : List Pair)
+      → EachRemoval (chartIn f) (labelsIn f) (allStanding (chartIn f)) (Loop (stepsIn f)) calls
+  each-removal = each-from passing (all-loops passing) (at-first passing)
+
+  -- each answer, places included, is the plain set's
+  pub against-plain-set : (calls : List Pair) → AgainstPlainSet (chartIn f) (labelsIn f) calls
+  against-plain-set = against passing
+
+  -- an order of all loops exists
+  pub an-order-exists : OrderExists (chartIn f) (labelsIn f)
+  an-order-exists = order-exists (formed passing) (listed passing) (passing .passed)
+
+  -- every such order runs with no refusal, leaves exactly the branches, and no endless path from any vertex
+  pub orders-run-through : (xs : List Pair) → Order (stepsIn f) xs → RunsThrough (chartIn f) (labelsIn f) xs
+  orders-run-through = runs-through passing
