@@ -29,5 +29,6 @@ pub mod Rules
 pub mod Relations
 pub mod Systems
 pub mod Followers
+pub mod Events
 pub mod Runs
 pub mod FollowerCases
