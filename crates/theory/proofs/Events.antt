@@ -49,9 +49,9 @@ module _ {M : System} {P Q : StateSet M} {v w : View} (s : Shows M P v) (t : Sho
   event-refused a n = by-reply keep (λ w. refused-53) (rw (is-false (s .some) n) refl)
 
 -- THE RULE EMPTIES NO SET
-pub event-rule-some : NeverEmpties eventRule
-event-rule-some k restart v = starts
-event-rule-some k (event a) v = cases (v .some) (someIn (eqb a) (v .offered)) refl
+pub event-never-empties : NeverEmpties eventRule
+event-never-empties k restart v = starts
+event-never-empties k (event a) v = cases (v .some) (someIn (eqb a) (v .offered)) refl
   where
     cases : (b c : Bool) → someIn (eqb a) (v .offered) ≡ c
         → LeavesSome v (cond b (cond c (reply (go a) (told taken)) (reply keep (told not-possible))) (reply keep (λ w. refused-53)) .effect)
@@ -74,4 +74,4 @@ not-refused (event a) v w h = rw h (cases (someIn (eqb a) (v .offered)))
 pub never-refused : {M : System} {cs : List Call} {xs : List Answer} → Answers eventRule M tt cs xs
     → (x : Answer) → List·Memᴰ x xs → x ≢ refused-53
 never-refused {M} f =
-    answers-some eventRule M event-rule-some (λ x. x ≢ refused-53) (λ k. not-refused) (M .start, refl) (f .follows)
+    answers-some eventRule M event-never-empties (λ x. x ≢ refused-53) (λ k. not-refused) (M .start, refl) (f .follows)

@@ -70,7 +70,7 @@ module _ {M N : System} {R : M .State → N .State → Type 0} (b : Bisimulation
 
   module _ (rule : FollowerRule) where
     -- ONE CALL: equal answers, equal parts kept, and matched members again
-    responds-agree : {P P′ : StateSet M} {Q Q′ : StateSet N} {k k′ l′ : rule .Kept} {c : rule .Call} {x y : rule .Answer}
+    pub responds-agree : {P P′ : StateSet M} {Q Q′ : StateSet N} {k k′ l′ : rule .Kept} {c : rule .Call} {x y : rule .Answer}
         → Lift R P Q → Responds rule M P k c x P′ k′ → Responds rule N Q k c y Q′ l′ → (x ≡ y) × (k′ ≡ l′) × Lift R P′ Q′
     responds-agree {k} {c} l r s =
         let e : r .before ≡ s .before = one-view N (shows-carried l (r .shown-before)) (s .shown-before) in
@@ -98,7 +98,7 @@ module _ {M N : System} {R : M .State → N .State → Type 0} (b : Bisimulation
     fresh-agree f g = followers-agree lift-fresh (f .follows) (g .follows) .0
 
     -- ANSWERS ARE CARRIED OVER: where the one follower has them, so has the other
-    responds-carried : {P P′ : StateSet M} {Q : StateSet N} {k l : rule .Kept} {c : rule .Call} {x : rule .Answer}
+    pub responds-carried : {P P′ : StateSet M} {Q : StateSet N} {k l : rule .Kept} {c : rule .Call} {x : rule .Answer}
         → Lift R P Q → Responds rule M P k c x P′ l → (Q′ : StateSet N) × Responds rule N Q k c x Q′ l × Lift R P′ Q′
     responds-carried {Q} {k} {c} m r =
         let e = rule .response k c (r .before) .effect in

@@ -122,10 +122,10 @@ module _ (M : Machine) where
   )
 
   module _ (rule : FollowerRule) where
-    abbrev State : Type 0
-    State = rule .Kept × List (M .State)
+    abbrev RunState : Type 0
+    RunState = rule .Kept × List (M .State)
 
-    call-responds : (s : State) (c : rule .Call) → let t = callOn rule M s c in
+    pub call-responds : (s : RunState) (c : rule .Call) → let t = callOn rule M s c in
         Responds rule (system M) (MembersOf M (s .1)) (s .0) c (t .0) (MembersOf M (t .1 .1)) (t .1 .0)
     call-responds s c =
         let e = rule .response (s .0) c (viewOf M (s .1)) .effect in
@@ -140,7 +140,7 @@ module _ (M : Machine) where
         }
 
     -- THE RUN IS THE MEANING: the answers are the rule's, and so is what is left
-    pub machine-follows : (cs : List (rule .Call)) (s : State) → let t = runLeaves (callOn rule M) cs s in
+    pub machine-follows : (cs : List (rule .Call)) (s : RunState) → let t = runLeaves (callOn rule M) cs s in
         Follows rule (system M) (MembersOf M (s .1)) (s .0) cs (run (callOn rule M) cs s) (MembersOf M (t .1)) (t .0)
     machine-follows cs s =
         let (xs, e, h, g) =
