@@ -5,6 +5,7 @@ pub mod tables;
 pub use sets::Marked;
 pub use sets::Set;
 pub use sets::read_set;
+pub use sets::set_bytes;
 ghost use mathlib.Core.Path.{_≡_};
 ghost use mathlib.Core.Bool.{true};
 ghost use mathlib.Core.Logic.{_≢_, _⊎_, _↔_};
@@ -83,6 +84,14 @@ pub fn value(i: usize) -> usize
     ensures { λ r. ⌜ r ≡ 2 ^ i ⌝ }
 {
     1 << i
+}
+
+// The byte with bit i too.
+pub fn with_value(byte: u8, i: usize) -> u8
+    requires { ⌜ i < 8 ⌝ }
+    ensures { λ r. ⌜ With byte i r ⌝ }
+{
+    byte | (value(i) as u8)
 }
 
 // Whether v is in a set of bytes.

@@ -1,22 +1,24 @@
 -- The targets of a set by an action, and the actions that it offers, gathered vertex by vertex.
-use Prim.Native.Nat.{ℕ, _+_, _≤_, _<_}
+use Prim.Native.Nat.{ℕ, suc, _+_, _-_, _≤_, _<_}
 use mathlib.Core.Path.{_≡_, refl, sym, _∙_, subst}
-use mathlib.Core.Logic.{_≢_, inl, inr, ⊎-elim, _↔_, by-cases}
-use mathlib.Core.Bool.{Bool, true, not, true≢false}
-use mathlib.Core.List.{List}
+use mathlib.Core.Logic.{_≢_, inl, inr, ⊎-elim, by-cases}
+use mathlib.Core.Bool.{Bool, true, false, cond}
+use mathlib.Core.List.{List, _∷_}
 use native.Mathlib.Decide.{ℕ-discrete, decLt}
+use native.Mathlib.Numerals.{add-one}
 use native.Mathlib.Omega.{arith}
-use borrow.Author.Tests.{not-true}
 use lib.Dec.{eqb}
 use lib.ListN.{length, getD, set, length-set, replicate, List·getD-eq-default}
 use lib.Seq.{getD-set-same, getD-set-other}
 use Rattle.theory.specs.Tests.{Decides}
 use Rattle.theory.proofs.Tests.{decided, decides-same, decides-and, decides-eqb, decides-below}
+use Rattle.bits.specs.Bits.{listFrom}
 use Rattle.bits.specs.declared.sets.Set.{Set}
-use Rattle.bits.specs.First.{First, Split}
-use Rattle.bits.specs.Sets.{Has, emptySet, Empty, Members, Union, sizeOf}
+use Rattle.bits.specs.First.{Split}
+use Rattle.bits.specs.Sets.{Has, emptySet, Empty, Members, Union}
 use Rattle.bits.proofs.Gains.{blank}
-use Rattle.bits.proofs.Members.{none, size-lt}
+use Rattle.bits.proofs.Members.{none}
+use Rattle.bits.proofs.Visits.{Visit}
 use Rattle.chart.specs.Bodies.{countOf, fromOf, actionOf}
 use Rattle.chart.specs.Leaving.{FromBelow}
 use Rattle.chart.specs.Steps.{Acts, ActsOf}
@@ -32,30 +34,11 @@ pub record ImageTo (b : List ℕ) (s left : Set) (a w : ℕ) : Type 0 where
   pub past : ¬ Has left from
   pub acts : ActsOf b from a w
 
--- the lowest of what is left, and what is left without it
-pub record Turn (s left : Set) (u : ℕ) (fewer : Set) : Type 0 where
-  pub within : (x : ℕ) → Has left x → Has s x
-  pub has : Has left u
-  pub rest : (y : ℕ) → Has fewer y ↔ (Has left y × (y ≢ u))
-
-pub turn-less : {s left fewer : Set} {u : ℕ} → Turn s left u fewer → sizeOf fewer < sizeOf left
-turn-less {left = left} {fewer} {u} T = size-lt fewer left u (λ y h. T .rest y .0 h .0) (T .has) (λ h. T .rest u .0 h .1 refl)
-
--- where something is left, the lowest is
-pub found : {left : Set} {u : ℕ} {b : Bool} → (b ≡ true) ↔ Empty left → not b ≡ true → First (Has left) 0 128 u → Has left u
-found {left} {u} E n F = by-cases (decLt u 128)
-    (λ h. F .holds h)
-    (λ h. absurd (true≢false (sym (E .1 (λ w g. F .before w (omega arith) (omega (arith, h, g .below)) g)) ∙ not-true _ n)))
-
-pub turned : {s left fewer : Set} {u : ℕ} → ((x : ℕ) → Has left x → Has s x) → Has left u → ((y : ℕ) → Has fewer y ↔ (Has left y × (y ≢ u)))
-    → Turn s left u fewer
-turned w h W = record { within = w; has = h; rest = W }
-
 module _ {b : List ℕ} {s : Set} {a : ℕ} where
   pub image-none : {r : Set} → r ≡ emptySet → Members (ImageTo b s s a) r
   image-none e = record { exactly = λ w h. ((λ g. absurd (none w (rw e at g))), (λ g. absurd (g .past (g .member)))) }
 
-  pub image-more : {left fewer t q r : Set} {u : ℕ} → Turn s left u fewer → Members (ImageTo b s left a) t → Members (ActsOf b u a) q → Union t q r
+  pub image-more : {left fewer t q r : Set} {u : ℕ} → Visit s left u fewer → Members (ImageTo b s left a) t → Members (ActsOf b u a) q → Union t q r
       → Members (ImageTo b s fewer a) r
   image-more {left} {fewer} {u = u} T M Q U = record {
     exactly = λ w h. (
@@ -129,7 +112,7 @@ module _ {b : List ℕ} {s : Set} where
   pub offers-none : Marks (OffersTo b s s) (replicate 256 0)
   offers-none = record { long = refl; low = λ a. omega (arith, blank 256 a); exactly = λ a h. ((λ e. absurd (omega (arith, e, blank 256 a))), (λ e. absurd (e .past (e .member)))) }
 
-  pub offers-more : {left fewer : Set} {u : ℕ} {before after : List ℕ} → Turn s left u fewer → Marks (OffersTo b s left) before → MarksMore (ActsFrom b u) before after
+  pub offers-more : {left fewer : Set} {u : ℕ} {before after : List ℕ} → Visit s left u fewer → Marks (OffersTo b s left) before → MarksMore (ActsFrom b u) before after
       → Marks (OffersTo b s fewer) after
   offers-more {left} {fewer} {u} {before} {after} T M N = record {
     long = N .long ∙ M .long;
@@ -152,3 +135,23 @@ module _ {b : List ℕ} {s : Set} where
 
   pub offers-all : {left : Set} {marks : List ℕ} → Empty left → Marks (OffersTo b s left) marks → Marks (Offers b s) marks
   offers-all E M = record { long = M .long; low = M .low; exactly = λ a h. ((λ g. let e = M .exactly a h .0 g in record { from = e .from; member = e .member; acts = e .acts }), (λ o. M .exactly a h .1 (record { from = o .from; member = o .member; past = E _; acts = o .acts }))) }
+
+-- HOW MANY ARE MARKED: of those from i on
+pub count-more : (p : ℕ → Bool) {n i : ℕ} {b : Bool} → i < n → b ≡ p i
+    → length (listFrom p i (n - i)) ≡ cond b 1 0 + length (listFrom p (i + 1) (n - (i + 1)))
+unfolding listFrom
+count-more p {n} {i} {b} h e =
+    let r : n - i ≡ suc (n - (i + 1)) = omega arith in
+    rw (r, add-one i, e) (go (p i))
+  where
+    go : (x : Bool) → length (cond x (i ∷ listFrom p (suc i) (n - suc i)) (listFrom p (suc i) (n - suc i))) ≡ cond x 1 0 + length (listFrom p (suc i) (n - suc i))
+    go true = omega arith
+    go false = omega arith
+
+pub count-end : (p : ℕ → Bool) {n i : ℕ} → n ≤ i → length (listFrom p i (n - i)) ≡ 0
+unfolding listFrom
+count-end p {n} {i} h = let r : n - i ≡ 0 = omega arith in rw r refl
+
+pub flag-low : (b : Bool) → cond b 1 0 ≤ 1
+flag-low true = omega arith
+flag-low false = omega arith

@@ -3,7 +3,9 @@ use Prim.Native.Nat.{ℕ, _≤_, _<_}
 use mathlib.Core.Path.{_≡_}
 use mathlib.Core.Logic.{_↔_}
 use mathlib.Core.List.{List}
+use lib.Dec.{eqb}
 use lib.ListN.{length, getD}
+use Rattle.bits.specs.Bits.{listFrom}
 use Rattle.bits.specs.declared.sets.Set.{Set}
 use Rattle.bits.specs.Sets.{Has}
 use Rattle.chart.specs.Steps.{ActsOf}
@@ -34,3 +36,7 @@ pub record MarksMore (P : ℕ → Type 0) (before after : List ℕ) : Type 0 whe
   pub long : length after ≡ length before
   pub marked : (a : ℕ) → a < 256 → P a → getD after a 0 ≡ 1
   pub others : (a : ℕ) → ¬ P a → getD after a 0 ≡ getD before a 0
+
+-- the numbers that are marked, ascending
+abbrev pub markedOf : List ℕ → List ℕ
+markedOf marks = listFrom (λ a. eqb (getD marks a 0) 1) 0 256

@@ -3,13 +3,14 @@ use bits::Set;
 use bits::byte;
 use report::Stage;
 ghost use mathlib.Core.Path.{_≡_};
-ghost use Prim.Native.Nat.{_<_};
+ghost use mathlib.Core.Bool.{cond};
+ghost use Prim.Native.Nat.{_+_, _<_};
 ghost use lib.ListN.{length};
 ghost use Rattle.bits.specs.Sets.{Members};
 ghost use Rattle.chart.specs.Checks.{checkOf};
 ghost use Rattle.chart.specs.Leaving.{Begins};
 ghost use Rattle.chart.specs.Steps.{ActsOf};
-ghost use Rattle.chart.specs.Images.{Image, ActsFrom, Offers, Marks, MarksMore};
+ghost use Rattle.chart.specs.Images.{Image, ActsFrom, Offers, Marks, MarksMore, markedOf};
 
 // What the transitions of u with this action lead to.
 fn action_row(body: &[u8], begins: &[usize; 129], u: usize, action: usize) -> Set
@@ -73,4 +74,25 @@ pub fn offered(body: &[u8], begins: &[usize; 129], set: Set) -> [u8; 256]
         left = left.without(u);
     }
     marks
+}
+
+fn one_more_if(n: usize, flag: bool) -> usize
+    requires { ⌜ n < 256 ⌝ }
+    ensures { λ r. ⌜ r ≡ n + cond flag 1 0 ⌝ }
+{
+    if flag { n + 1 } else { n }
+}
+
+// How many are marked.
+pub fn count_marks(marks: &[u8; 256]) -> usize
+    requires { ⌜ length (now marks) ≡ 256 ⌝ }
+    ensures { λ r. ⌜ r ≡ length (markedOf (now (marks .entry))) ⌝ }
+{
+    let mut total: usize = 0;
+    let mut i: usize = 0;
+    while i < 256 {
+        total = one_more_if(total, marks[i] == 1);
+        i += 1;
+    }
+    total
 }

@@ -6,7 +6,8 @@ use Rattle.report.specs.declared.Stage.the-variants as Stage
 use Rattle.bits.specs.Sets.{Has, Members, sizeOf}
 use Rattle.chart.specs.Checks.{checkOf}
 use Rattle.chart.specs.Leaving.{Begins}
-use Rattle.chart.proofs.Targets.{ImageTo, found, turned, turn-less, image-none, image-more, image-all}
+use Rattle.bits.proofs.Visits.{found, visited, visit-less}
+use Rattle.chart.proofs.Targets.{ImageTo, image-none, image-more, image-all}
 use Rattle.chart.proofs.images.image.Statement.{statement}
 use Rattle.chart.proofs.images.image.Tie as tie
 
@@ -38,12 +39,12 @@ without-requires : tie.Need-without-requires Inv-loop μ-loop
 without-requires c κs = found (c .before .before .before .before .is-empty .ensures) (c .before .before .before .if1 .taken) (c .before .before .lowest .ensures) .below
 
 loop-less : tie.Need-loop-less Inv-loop μ-loop
-loop-less c = turn-less (turned (c .before .before .before .before .before .before .loop .inv .2) (found (c .before .before .before .before .before .is-empty .ensures) (c .before .before .before .before .if1 .taken) (c .before .before .before .lowest .ensures)) (c .without .ensures))
+loop-less c = visit-less (visited (c .before .before .before .before .before .before .loop .inv .2) (found (c .before .before .before .before .before .is-empty .ensures) (c .before .before .before .before .if1 .taken) (c .before .before .before .lowest .ensures)) (c .without .ensures))
 
 loop-again : tie.Need-loop-again Inv-loop μ-loop
 loop-again c =
     let i = c .before .before .before .before .before .before .loop .inv in
-    let T = turned (i .2) (found (c .before .before .before .before .before .is-empty .ensures) (c .before .before .before .before .if1 .taken) (c .before .before .before .lowest .ensures)) (c .without .ensures) in
+    let T = visited (i .2) (found (c .before .before .before .before .before .is-empty .ensures) (c .before .before .before .before .if1 .taken) (c .before .before .before .lowest .ensures)) (c .without .ensures) in
     (i .0, i .1, λ x h. i .2 x (T .rest x .0 h .0), image-more T (i .3) (c .before .before .action-row .ensures) (c .before .union .ensures))
 
 returns : tie.Need-returns Inv-loop μ-loop
