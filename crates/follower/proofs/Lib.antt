@@ -1,2 +1,3 @@
 -- The laws.
 pub mod Bytes
+pub mod Calls
