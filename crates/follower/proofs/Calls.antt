@@ -1,10 +1,12 @@
 -- What the code of a call finds, by sets and marks, is what the definitions say of the state's bytes.
-use Prim.Native.Nat.{ℕ, _+_, _*_, _/_, _%_, _<_}
+use Prim.Native.Nat.{ℕ, _+_, _*_, _/_, _%_, _≤_, _<_}
 use mathlib.Core.Path.{_≡_, refl, sym, _∙_, ap, ap₂, subst}
-use mathlib.Core.Logic.{⊎-elim, _↔_, Iff·symm, Iff·trans}
-use mathlib.Core.Bool.{Bool, true, false, cond}
-use mathlib.Core.List.{List, [], _∷_, List·Memᴰ, List·Memᴰ·not-nil}
+use mathlib.Core.Logic.{_≢_, _⊎_, inr, ⊎-elim, _↔_, Iff·symm, Iff·trans, by-cases}
+use mathlib.Core.Bool.{Bool, true, false, true≢false}
+use mathlib.Core.List.{List, [], _∷_, List·Memᴰ, List·Memᴰ·head, List·Memᴰ·not-nil, List·Memᴰ·eq-of-singleton}
+use native.Mathlib.Decide.{decLt}
 use native.Mathlib.Omega.{arith}
+use borrow.Author.Tests.{eq-eqb, ne-eqb}
 use lib.Dec.{eqb, ltb}
 use lib.ListN.{length, getD}
 use Rattle.theory.specs.Tests.{Decides, someIn}
@@ -12,22 +14,30 @@ use Rattle.theory.specs.Transitions.{Transition}
 use Rattle.theory.specs.Followers.{View, Shows, keep, fresh, go, Offered}
 use Rattle.theory.specs.Events.{event, restart, taken, not-possible, Word, answer, told, replyTo}
 use Rattle.theory.specs.Runs.{Machine, system, MembersOf, nonempty, viewOf, leftBy}
-use Rattle.theory.proofs.Tests.{decided, is-false, decides-same, decides-eqb, decides-listed}
+use Rattle.theory.proofs.Tests.{is-false, decides-same, decides-and, decides-not, decides-eqb, decides-ltb, decides-leb, decides-in, decides-listed}
 use Rattle.theory.proofs.Search.{look-below}
 use Rattle.theory.proofs.Followers.{one-view}
 use Rattle.theory.proofs.Runs.{view-shows, effect-members, chart-machine}
 use Rattle.bits.specs.Bits.{Bytes, hasBit}
 use Rattle.bits.specs.declared.sets.Set.{Set}
 use Rattle.bits.specs.Words.{On}
-use Rattle.bits.specs.Sets.{Has, Empty, Members, BytesOf}
+use Rattle.bits.specs.Sets.{Has, emptySet, Empty, Last, Members, BytesOf}
 use Rattle.bits.proofs.Determined.{test-one}
-use Rattle.bits.proofs.Members.{has?}
-use Rattle.chart.specs.Bodies.{startOf, countOf, actionOf, toOf, WellFormed}
+use Rattle.bits.proofs.Members.{none, has?}
+use Rattle.report.specs.declared.Followed.the-variants.{Taken, NotPossible, Refused, FollowerSet}
+use Rattle.report.specs.declared.Place.{Place}
+use Rattle.report.specs.declared.Stage.the-variants as stage
+use Rattle.chart.specs.Bodies.{verticesOf, startOf, WellFormed}
+use Rattle.chart.specs.Checks.{checkOf}
 use Rattle.chart.specs.Steps.{transitionsOf, ActsOf}
 use Rattle.chart.specs.Images.{Image, Offers, Marks, markedOf}
+use Rattle.chart.proofs.Checks.{well-formed}
 use Rattle.chart.proofs.Relations.{acts-member}
 use Rattle.chart.proofs.Rows.{to-low}
-use Rattle.follower.specs.States.{membersOf, stateOf, machineOf, followedAs, answerOf, bytesAfter}
+use Rattle.follower.specs.declared.Follower.{Follower}
+use Rattle.follower.specs.declared.Moved.{Moved}
+use Rattle.follower.specs.Parts.{CountOffered}
+use Rattle.follower.specs.States.{membersOf, stateOf, machineOf, setTest, followedAs, answerOf, bytesAfter, moved, restarted, restartFrom, eventOf, eventLent, restartLent}
 use Rattle.follower.proofs.Bytes.{set-length, set-bytes, set-bit, same-bytes, list-from→, list-from←, list-ascends, members-are}
 
 -- the set and the list have the same members
@@ -125,3 +135,110 @@ module _ (b : List ℕ) (W : WellFormed b) (B : Bytes b) where
         → (answerOf b s (event a) ≡ followedAs (told taken (viewOf M (leftBy M (go a) (membersOf s))))) × (bytesAfter b s (event a) ≡ stateOf (leftBy M (go a) (membersOf s)))
     unfolding answerOf bytesAfter
     event-goes n = let q = offers .1 n in (rw (has-some, q) refl, rw (has-some, q) refl)
+
+-- 53
+module _ {set : Set} where
+  pub fits-empty : {n : ℕ} → Empty set → (false ≡ true) ↔ ((¬ Empty set) × ((w : ℕ) → Has set w → w < n))
+  fits-empty e = ((λ f. absurd (true≢false (sym f))), (λ (s, g). absurd (s e)))
+
+  pub fits-highest : {h n : ℕ} → Last set h → (ltb h n ≡ true) ↔ ((¬ Empty set) × ((w : ℕ) → Has set w → w < n))
+  fits-highest {h} {n} L = (
+    (λ e. let l = decides-ltb h n .0 e in ((λ s. s h (L .has)), λ w g. by-cases (decLt h w) (λ k. absurd (L .above w k g)) (λ k. omega (arith, l, k)))),
+    (λ (s, g). decides-ltb h n .1 (g h (L .has))),
+  )
+
+pub set-tested : (b s : List ℕ) {set : Set} → Same set (membersOf s) → Decides (setTest b s) ((¬ Empty set) × ((w : ℕ) → Has set w → w < verticesOf b))
+unfolding setTest
+set-tested b s {set} S =
+    decides-same (to, from)
+    (decides-and (view-shows (machineOf b) (membersOf s) .some) (decides-not (decides-in (λ v. decides-leb (verticesOf b) v) (membersOf s))))
+  where
+    to : ((x : ℕ) × List·Memᴰ x (membersOf s)) × (¬ ((x : ℕ) × List·Memᴰ x (membersOf s) × (verticesOf b ≤ x))) → (¬ Empty set) × ((w : ℕ) → Has set w → w < verticesOf b)
+    to ((x, m), n) = ((λ e. e x (S x .1 m)), λ w h. by-cases (decLt w (verticesOf b)) (λ l. l) (λ l. absurd (n (w, S w .0 h, omega arith))))
+
+    from : (¬ Empty set) × ((w : ℕ) → Has set w → w < verticesOf b) → ((x : ℕ) × List·Memᴰ x (membersOf s)) × (¬ ((x : ℕ) × List·Memᴰ x (membersOf s) × (verticesOf b ≤ x)))
+    from (n, f) = (
+      ⊎-elim (λ (x, l, h). (x, S x .0 h)) (λ g. absurd (n (λ w h. g w (h .below) h))) (look-below (has? set) 128),
+      λ (x, m, l). omega (arith, l, f x (S x .1 m)),
+    )
+
+-- THE CODE'S ANSWERS, over a body that passes 20 and 21
+module _ (b : List ℕ) (C : checkOf b ≡ stage.Passed) (B : Bytes b) where
+  abbrev Well : WellFormed b
+  Well = well-formed b C
+
+  module _ (f : Follower) {set : Set} (S : Same set (membersOf (f .set))) (a : ℕ) where
+    pub event-53 : ¬ ((¬ Empty set) × ((w : ℕ) → Has set w → w < verticesOf b)) → eventOf b f a ≡ moved FollowerSet (f .set)
+    unfolding eventOf
+    event-53 n = rw (C, is-false (set-tested b (f .set) S) n) refl
+
+    module _ (fits : (¬ Empty set) × ((w : ℕ) → Has set w → w < verticesOf b)) {targets : Set} (I : Members (Image b set a) targets) where
+      passes-53 : eventOf b f a ≡ moved (answerOf b (f .set) (event a)) (bytesAfter b (f .set) (event a))
+      unfolding eventOf
+      passes-53 = rw (C, set-tested b (f .set) S .1 fits) refl
+
+      pub event-stays : Empty targets → {end : Bool} {n : ℕ} → Decides end (Has set 0) → CountOffered b set n → moved (NotPossible end n) (f .set) ≡ eventOf b f a
+      event-stays e {end} {n} E K =
+          let (p, q) = event-keeps b Well B (f .set) S (fits .0) I e in
+          sym (passes-53 ∙ ap₂ moved (p ∙ ap followedAs (told-same b Well B S (K .exactly) E not-possible) ∙ ap (NotPossible end) (sym (K .many))) q)
+
+      pub event-moves : ¬ Empty targets → {end : Bool} {n : ℕ} {r : List ℕ} → Decides end (Has targets 0) → CountOffered b targets n → BytesOf targets r
+          → moved (Taken end n) r ≡ eventOf b f a
+      event-moves e {end} {n} {r} E K R =
+          let (p, q) = event-goes b Well B (f .set) S (fits .0) I e in
+          let T = image-same b Well B S I in
+          sym (passes-53 ∙ ap₂ moved (p ∙ ap followedAs (told-same b Well B T (K .exactly) E taken) ∙ ap (Taken end) (sym (K .many))) (q ∙ sym (bytes-same _ R T)))
+
+  pub restart-moves : {set : Set} → ((y : ℕ) → Has set y ↔ (y ≡ startOf b)) → {end : Bool} {n : ℕ} {r : List ℕ} → Decides end (Has set 0) → CountOffered b set n → BytesOf set r
+      → moved (Taken end n) r ≡ restarted b
+  unfolding answerOf bytesAfter
+  restart-moves {set} H {end} {n} {r} E K R =
+      let T : Same set (startOf b ∷ []) = λ v. ((λ h. List·Memᴰ·head (H v .0 h)), (λ m. H v .1 (List·Memᴰ·eq-of-singleton m))) in
+      sym (ap₂ moved (ap followedAs (told-same b Well B T (K .exactly) E taken) ∙ ap (Taken end) (sym (K .many))) (sym (bytes-same _ R T)))
+
+-- the set of the start alone
+pub only-start : (b : List ℕ) {none-yet set : Set} {start : ℕ} → none-yet ≡ emptySet → start ≡ startOf b → ((y : ℕ) → Has set y ↔ (Has none-yet y ⊎ (y ≡ start)))
+    → (y : ℕ) → Has set y ↔ (y ≡ startOf b)
+only-start b e f W y = ((λ h. ⊎-elim (λ g. absurd (none y (rw e at g))) (λ z. z ∙ f) (W y .0 h)), (λ z. W y .1 (inr (z ∙ sym f))))
+
+-- 20 AND 21
+module _ (b : List ℕ) (f : Follower) where
+  pub event-refused : (a : ℕ) {p : Place} → checkOf b ≡ stage.Refused p → eventOf b f a ≡ moved (Refused p) (f .set)
+  unfolding eventOf
+  event-refused a c = rw c refl
+
+  pub restart-refused : {p : Place} → checkOf b ≡ stage.Refused p → restartFrom b f ≡ moved (Refused p) (f .set)
+  unfolding restartFrom
+  restart-refused c = rw c refl
+
+  pub restart-passed : checkOf b ≡ stage.Passed → restartFrom b f ≡ restarted b
+  unfolding restartFrom
+  restart-passed c = rw c refl
+
+-- LENT BYTES
+module _ (b s : List ℕ) where
+  pub event-lent-refused : (a : ℕ) {p : Place} → checkOf b ≡ stage.Refused p → eventLent b s a ≡ moved (Refused p) s
+  unfolding eventLent
+  event-lent-refused a c = rw c refl
+
+  pub restart-lent-refused : {p : Place} → checkOf b ≡ stage.Refused p → restartLent b s ≡ moved (Refused p) s
+  unfolding restartLent
+  restart-lent-refused c = rw c refl
+
+  module _ (C : checkOf b ≡ stage.Passed) where
+    pub event-lent-length : (a : ℕ) → length s ≢ 16 → eventLent b s a ≡ moved FollowerSet s
+    unfolding eventLent
+    event-lent-length a n = rw (C, ne-eqb (length s) 16 n) refl
+
+    pub restart-lent-length : length s ≢ 16 → restartLent b s ≡ moved FollowerSet s
+    unfolding restartLent
+    restart-lent-length n = rw (C, ne-eqb (length s) 16 n) refl
+
+    -- the state that is read from them
+    pub event-lent-passed : (a : ℕ) → length s ≡ 16 → {f : Follower} {m : Moved} → f .set ≡ s → m ≡ eventOf b f a → m ≡ eventLent b s a
+    unfolding eventLent
+    event-lent-passed a l e q = q ∙ ap (λ (t : List ℕ). eventOf b (record { set = t }) a) e ∙ sym (rw (C, eq-eqb (length s) 16 l) refl)
+
+    pub restart-lent-passed : length s ≡ 16 → restartLent b s ≡ restarted b
+    unfolding restartLent restartFrom
+    restart-lent-passed l = rw (C, eq-eqb (length s) 16 l) refl

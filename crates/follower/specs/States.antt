@@ -76,9 +76,11 @@ eventOf b f a =
 
 -- a restart: 20, 21. It takes no state; where it is refused it hands back the empty set, or the state that a caller
 -- lends
+abbrev pub restarted : List ℕ → Moved
+restarted b = moved (answerOf b noBytes restart) (bytesAfter b noBytes restart)
+
 unfoldable pub restartFrom : List ℕ → Follower → Moved
-restartFrom b f =
-    onChart (checkOf b) (f .set) (moved (answerOf b noBytes restart) (bytesAfter b noBytes restart))
+restartFrom b f = onChart (checkOf b) (f .set) (restarted b)
 
 abbrev pub restartOf : List ℕ → Moved
 restartOf b = restartFrom b (record { set = noBytes })
