@@ -14,7 +14,7 @@ pub struct Moved {
     pub follower: Follower,
 }
 
-// One event.
+// One event. A stand-in.
 pub fn event(chart: &[u8], follower: Follower, action: u8) -> Moved
     ensures { λ r. ⌜ r ≡ eventOf (now (chart .entry)) follower action ⌝ }
 {
@@ -24,7 +24,7 @@ pub fn event(chart: &[u8], follower: Follower, action: u8) -> Moved
     }
 }
 
-// The follower at the chart's start; a refusal keeps the follower that is given.
+// The follower at the chart's start; a refusal keeps the follower that is given. A stand-in.
 fn restart_from(chart: &[u8], follower: Follower) -> Moved
     ensures { λ r. ⌜ r ≡ restartFrom (now (chart .entry)) follower ⌝ }
 {
@@ -54,7 +54,7 @@ pub fn restart_in_place(chart: &[u8], follower: &mut Follower) -> Followed
     moved.answer
 }
 
-// The lent forms, called on a local: for a caller that lends no follower.
+// An event by the lent form, on a local: for a caller whose proof does not go by hand.
 pub fn event_through(chart: &[u8], follower: Follower, action: u8) -> Moved
     ensures { λ r. ⌜ r ≡ eventOf (now (chart .entry)) follower action ⌝ }
 {
@@ -66,6 +66,7 @@ pub fn event_through(chart: &[u8], follower: Follower, action: u8) -> Moved
     }
 }
 
+// A restart by the lent form, on a local.
 pub fn restart_through(chart: &[u8], follower: Follower) -> Moved
     ensures { λ r. ⌜ r ≡ restartFrom (now (chart .entry)) follower ⌝ }
 {
