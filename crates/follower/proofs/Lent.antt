@@ -101,7 +101,7 @@ module _ {M : Type 1} (𝓤 : URA M) (H : Heap 𝓤) (A : Atoms 𝓤) (W : Given
   moved-typed : (a : Moved) {w : Val} → Is R.the-row a (w ∷ []) → T (hasTy R′.mir w) × WT w
   moved-typed a is = LL.lawful R.the-type R′.the-laws 𝓤 H A W .typed a _ is .0
 
--- ---- the parameters: their places in a signature with n lifetimes, and what is owned of them
+-- ---- the parameters: the chart's place in a signature with one lifetime and with two, and what is owned of each
 abbrev pub Chart₁ : Slot 1
 Chart₁ = shrSliceOf (0 ∷ []) tt (plain (λ _. u8))
 
