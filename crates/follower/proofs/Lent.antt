@@ -101,7 +101,7 @@ module _ {M : Type 1} (𝓤 : URA M) (H : Heap 𝓤) (A : Atoms 𝓤) (W : Given
   moved-typed : (a : Moved) {w : Val} → Is R.the-row a (w ∷ []) → T (hasTy R′.mir w) × WT w
   moved-typed a is = LL.lawful R.the-type R′.the-laws 𝓤 H A W .typed a _ is .0
 
--- ---- the parameters: their places in a signature with n lifetimes, and what is owned of them
+-- ---- the parameters: the chart's place in a signature with one lifetime and with two, and what is owned of each
 abbrev pub Chart₁ : Slot 1
 Chart₁ = shrSliceOf (0 ∷ []) tt (plain (λ _. u8))
 
@@ -135,9 +135,13 @@ pub numbered : {M : Type 1} (𝓤 : URA M) (H : Heap 𝓤) (A : Atoms 𝓤) (W :
     → ent 𝓤 (emp 𝓤) (sem 𝓤 H A (number n))
 numbered 𝓤 H A W n fits = qed W [] ∵ nothing ! $ owned ! u8 (Is u8) (uint-makes 𝓤 H A W w8) n _ (refl, fits) $ fjoin ! $ done !
 
+-- what a thin function holds of its follower, and its token for the chart
+abbrev pub Held : {M : Type 1} {𝓤 : URA M} → Lft → Share → Lft → Share → ℕ → ℕ → GName → Follower → List (Item 𝓤)
+Held κ q κ′ q′ b o γ h = ‵ (shown γ h) ∷ ‵ (loan κ′ b o γ) ∷ ‵ (flft κ′ q′) ∷ ‵ (flft κ q) ∷ []
+
 -- ---- where a function begins, what it asks of the one that it calls, and where it ends
 -- P is what is owned of the parameters after the chart and the follower, or what stays of them: each is had for nothing
-module _ {M : Type 1} (𝓤 : URA M) (H : Heap 𝓤) (A : Atoms 𝓤) (W : Given 𝓤 H A) (κ : Lft) (q : Share) (s : RefT (List ℕ)) where
+module _ {M : Type 1} (𝓤 : URA M) (H : Heap 𝓤) (A : Atoms 𝓤) (W : Given 𝓤 H A) (κ : Lft) (q : Share) where
   abbrev _∗_ : SProp 𝓤 → SProp 𝓤 → SProp 𝓤
   P ∗ Q = sep 𝓤 P Q
 
@@ -145,42 +149,41 @@ module _ {M : Type 1} (𝓤 : URA M) (H : Heap 𝓤) (A : Atoms 𝓤) (W : Given
   abbrev ⟦_⟧ : Fml → SProp 𝓤
   ⟦ P ⟧ = sem 𝓤 H A P
 
-  pub core-asked : (h : Follower) → IsFollower h → (P : Fml) → ent 𝓤 (emp 𝓤) ⟦ P ⟧
+  pub core-asked : (s : RefT (List ℕ)) (h : Follower) → IsFollower h → (P : Fml) → ent 𝓤 (emp 𝓤) ⟦ P ⟧
       → ent 𝓤 (A .lft κ q ∗ ⟦ chart κ s ⟧) (((A .lft κ q ∗ emp 𝓤) ∗ ⟦ fsep (chart κ s) (fsep (F.the-row .own h (vals h)) P) ⟧) ∗ emp 𝓤)
-  core-asked h was P p =
+  core-asked s h was P p =
       qed W (‵ (flft κ q) ∷ ‵ (chart κ s) ∷ []) ∵ nothing ! $ move ! (1 ∷ 0 ∷ []) $ join ! $ use0 W (‵ P) p $
       owned ! F.the-row (Is F.the-row) (LL.makes F.the-type F′.the-plain 𝓤 H A) h _ was $ fjoin ! $
       move ! (2 ∷ 0 ∷ []) $ fjoin ! $ move ! (1 ∷ 0 ∷ []) $ join ! $ frame ! $ done !
 
   module _ (κ′ : Lft) (q′ : Share) (b o : ℕ) (γ : GName) where
-    abbrev pub Held : Follower → List (Item 𝓤)
-    Held h = ‵ (shown γ h) ∷ ‵ (loan κ′ b o γ) ∷ ‵ (flft κ′ q′) ∷ ‵ (flft κ q) ∷ []
-
-    pub thin-begins : (h : Follower) (P : Fml)
-        → ent 𝓤 ((A .lft κ q ∗ A .lft κ′ q′ ∗ emp 𝓤) ∗ ⟦ fsep (chart κ s) (fsep (behind κ′ b o γ h) P) ⟧) (⋆ 𝓤 H A (‵ (chart κ s) ∷ Held h))
-    thin-begins h P =
+    pub thin-begins : (s : RefT (List ℕ)) (h : Follower) (P : Fml)
+        → ent 𝓤 ((A .lft κ q ∗ A .lft κ′ q′ ∗ emp 𝓤) ∗ ⟦ fsep (chart κ s) (fsep (behind κ′ b o γ h) P) ⟧)
+        (⋆ 𝓤 H A (‵ (chart κ s) ∷ Held κ q κ′ q′ b o γ h))
+    thin-begins s h P =
         qed W ((‵ (flft κ q) ⊛ ‵ (flft κ′ q′) ⊛ ‵ ftrue) ∷ ‵ (fsep (chart κ s) (fsep (behind κ′ b o γ h) P)) ∷ []) ∵
         split ! $ move ! (1 ∷ []) $ split ! $ move ! (3 ∷ []) $ fsplit ! $ move ! (1 ∷ []) $ fsplit ! $ fsplit3 ! $
         keep ! (4 ∷ 1 ∷ 2 ∷ 5 ∷ 7 ∷ []) $ done !
 
     pub thin-ends : (h : Follower) (r : Followed) → IsAnswer r → (P : Fml) → ent 𝓤 (emp 𝓤) ⟦ P ⟧
-        → ent 𝓤 (⋆ 𝓤 H A (Held h)) ((A .lft κ q ∗ A .lft κ′ q′ ∗ emp 𝓤) ∗ ⟦ fsep ftrue (fsep (behind κ′ b o γ h) P) ⟧ ∗ ⟦ S.the-row .own r (answer-val r ∷ []) ⟧)
+        → ent 𝓤 (⋆ 𝓤 H A (Held κ q κ′ q′ b o γ h))
+        ((A .lft κ q ∗ A .lft κ′ q′ ∗ emp 𝓤) ∗ ⟦ fsep ftrue (fsep (behind κ′ b o γ h) P) ⟧ ∗ ⟦ S.the-row .own r (answer-val r ∷ []) ⟧)
     thin-ends h r is P p =
-        qed W (Held h) ∵ nothing ! $ move ! (3 ∷ 0 ∷ []) $ join ! $ move ! (3 ∷ 0 ∷ []) $ join ! $ frame ! $
+        qed W (Held κ q κ′ q′ b o γ h) ∵ nothing ! $ move ! (3 ∷ 0 ∷ []) $ join ! $ move ! (3 ∷ 0 ∷ []) $ join ! $ frame ! $
         feqI ! (List Val) (vptr b o ∷ []) (vptr b o ∷ []) refl $ fjoin3 ! $ use0 W (‵ P) p $ move ! (1 ∷ 0 ∷ []) $ fjoin ! $ nothing ! $ fjoin ! $
         owned ! S.the-row (Is S.the-row) (EL.makes S.the-type S′.the-plain 𝓤 H A) r _ is $ move ! (1 ∷ 0 ∷ []) $ done !
 
-    pub thin-asked : (h : Follower) (P : Fml) → ent 𝓤 (emp 𝓤) ⟦ P ⟧
+    pub thin-asked : (s : RefT (List ℕ)) (h : Follower) (P : Fml) → ent 𝓤 (emp 𝓤) ⟦ P ⟧
         → ent 𝓤 ((A .lft κ q ∗ A .lft κ′ q′) ∗ ⟦ chart κ s ⟧ ∗ ⟦ behind κ′ b o γ h ⟧)
         (((A .lft κ q ∗ A .lft κ′ q′ ∗ emp 𝓤) ∗ ⟦ fsep (chart κ s) (fsep (behind κ′ b o γ h) P) ⟧) ∗ emp 𝓤)
-    thin-asked h P p =
+    thin-asked s h P p =
         qed W ((‵ (flft κ q) ⊛ ‵ (flft κ′ q′)) ∷ ‵ (chart κ s) ∷ ‵ (behind κ′ b o γ h) ∷ []) ∵
         split ! $ nothing ! $ move ! (2 ∷ 0 ∷ []) $ join ! $ move ! (1 ∷ 0 ∷ []) $ join ! $ use0 W (‵ P) p $
         move ! (3 ∷ 0 ∷ []) $ fjoin ! $ move ! (2 ∷ 0 ∷ []) $ fjoin ! $ move ! (1 ∷ 0 ∷ []) $ join ! $ frame ! $ done !
 
-  pub through-begins : (h : Follower) (P : Fml)
+  pub through-begins : (s : RefT (List ℕ)) (h : Follower) (P : Fml)
       → ent 𝓤 ((A .lft κ q ∗ emp 𝓤) ∗ ⟦ fsep (chart κ s) (fsep (F.the-row .own h (vals h)) P) ⟧) (⋆ 𝓤 H A (‵ (flft κ q) ∷ ‵ (chart κ s) ∷ []))
-  through-begins h P =
+  through-begins s h P =
       qed W ((‵ (flft κ q) ⊛ ‵ ftrue) ∷ ‵ (fsep (chart κ s) (fsep (F.the-row .own h (vals h)) P)) ∷ []) ∵
       split ! $ move ! (2 ∷ []) $ fsplit ! $ keep ! (2 ∷ 0 ∷ []) $ done !
 
@@ -242,7 +245,8 @@ module _ {M : Type 1} {𝓤 : URA M} {H : Heap 𝓤} {A : Atoms 𝓤} {K : Type 
       → ((w : Val) → ent 𝓤 (Core .post x w) (H .⇛ (ex 𝓤 (λ (n : Moved). sep 𝓤 (sep 𝓤 (sep 𝓤 (A .lft κ q) (emp 𝓤)) (sem 𝓤 H A (R.the-row .own n (w ∷ []))))
       (ex 𝓤 (λ (u : X). sep 𝓤 (L u) (fact 𝓤 (n ≡ a))))))))
       → Opds K W (raw (Core .pre x) ∷ ‵ (cellAt fullShare (F.the-row .mir) (vals h) b o) ∷ ‵ (fobor κ′ q′ (Body (mem F.the-row) b o γ)) ∷ ‵ (shown γ h)
-      ∷ ‵ (fauth γ (F.the-row .coded .code h)) ∷ ‵ (cell τ l₂ (vptr b o)) ∷ ‵ (cell F′.mir lc (val h)) ∷ ‵ (room R′.mir lm) ∷ ‵ (room S′.mir l₀) ∷ Γ) E xs (Core .args x)
+      ∷ ‵ (fauth γ (F.the-row .coded .code h)) ∷ ‵ (cell τ l₂ (vptr b o)) ∷ ‵ (cell F′.mir lc (val h)) ∷ ‵ (room R′.mir lm) ∷ ‵ (room S′.mir l₀)
+      ∷ Γ) E xs (Core .args x)
       → (IsAnswer (a .answer) → Seq K W (‵ (shown γ (a .follower)) ∷ ‵ (loan κ′ b o γ) ∷ ‵ (flft κ′ q′) ∷ ‵ (flft κ q)
       ∷ ‵ (room τ l₂) ∷ ‵ (room F′.mir lc) ∷ ‵ (room R′.mir lm) ∷ ‵ (room S′.mir l₀) ∷ Γ) (frees E (prop (Q (answer-val (a .answer))))))
       → Seq K W (‵ (shown γ h) ∷ ‵ (loan κ′ b o γ) ∷ ‵ (flft κ′ q′) ∷ ‵ (flft κ q) ∷ ‵ P
@@ -257,9 +261,11 @@ module _ {M : Type 1} {𝓤 : URA M} {H : Heap 𝓤} {A : Atoms 𝓤} {K : Type 
       -- [the follower's cell; the open borrow; obs; auth; the core's token; what it reads; _2; room for _c, _m, _0]
       assigns t (of-opd t (load t (at t e₂ (hop t (look t 6 refl) (stop t))) (look-raw t zero refl))) (at t ec (stop t)) (init t 7 refl (typed 𝓤 H A W h was)) $
       move t (4 ∷ 5 ∷ []) $ use2 W (raw (Core .pre x)) (asked was) $ calls-at t fm Core known x os (λ w.
-      use1 W (later (some (λ (n : Moved). ((‵ (flft κ q) ⊛ ‵ ftrue) ⊛ ‵ (R.the-row .own n (w ∷ []))) ⊛ some (λ u. raw (L u) ⊛ raw (fact 𝓤 (n ≡ a)))))) (says w) $ await t tt $
+      use1 W (later (some (λ (n : Moved). ((‵ (flft κ q) ⊛ ‵ ftrue) ⊛ ‵ (R.the-row .own n (w ∷ []))) ⊛ some (λ u. raw (L u) ⊛ raw (fact 𝓤 (n ≡ a)))))) (says w) $
+      await t tt $
       pick t (λ n. split t $ move t (1 ∷ []) $ pick t (λ u. split t $ drop t $ heard t (n ≡ a) (λ e. split t $ split t $ move t (2 ∷ []) $
-      rewrite t zero (λ (z : Moved). ‵ (R.the-row .own z (w ∷ []))) e refl $ facts t R.the-row (Is R.the-row) (shows 𝓤 H A R.the-row) a (w ∷ []) (λ is. move t (1 ∷ []) $ drop t $
+      rewrite t zero (λ (z : Moved). ‵ (R.the-row .own z (w ∷ []))) e refl $
+      facts t R.the-row (Is R.the-row) (shows 𝓤 H A R.the-row) a (w ∷ []) (λ is. move t (1 ∷ []) $ drop t $
       -- [the token; the follower's cell; the open borrow; obs; auth; _2; _c; room for _m, _0]
       land t (at t em (stop t)) (init t 7 refl (moved-typed 𝓤 H A W a is)) $
       rewrite t 7 (λ (u : Val). ‵ (cell R′.mir lm u)) (ap only (LL.tells R.the-type R′.the-laws a _ is)) refl $
@@ -279,7 +285,8 @@ module _ {M : Type 1} {𝓤 : URA M} {H : Heap 𝓤} {A : Atoms 𝓤} {K : Type 
       → FmC 𝓤 H (W .laws) C → (Thin : Contract 𝓤) → Triple 𝓤 (C thin) Thin → (to : ℕ → GName → Thin .Ghost) (h : Follower) (a : Moved)
       → At 𝓤 H E zero R′.mir l₀ → At 𝓤 H E 2 F′.mir l₂ → At 𝓤 H E x F′.mir lx → At 𝓤 H E y (tyRef ℓ mut τ) ly → At 𝓤 H E r S′.mir lr → At 𝓤 H E z F′.mir lz
       → IsFollower h
-      → ((ν : ℕ) (γ : GName) → ent 𝓤 (sep 𝓤 (sep 𝓤 (A .lft κ q) (A .lft (ν ∷ []) fullShare)) (sep 𝓤 (sem 𝓤 H A P) (sem 𝓤 H A (behind (ν ∷ []) lx zero γ h)))) (Thin .pre (to ν γ)))
+      → ((ν : ℕ) (γ : GName) → ent 𝓤 (sep 𝓤 (sep 𝓤 (A .lft κ q) (A .lft (ν ∷ []) fullShare)) (sep 𝓤 (sem 𝓤 H A P) (sem 𝓤 H A (behind (ν ∷ []) lx zero γ h))))
+      (Thin .pre (to ν γ)))
       → (X : Type 0) (L : Fml)
       → ((ν : ℕ) (γ : GName) (w : Val) → ent 𝓤 (Thin .post (to ν γ) w)
       (H .⇛ (ex 𝓤 (λ (n : Followed). sep 𝓤 (sep 𝓤 (sep 𝓤 (A .lft κ q) (sep 𝓤 (A .lft (ν ∷ []) fullShare) (emp 𝓤))) (sem 𝓤 H A (S.the-row .own n (w ∷ []))))
@@ -301,12 +308,14 @@ module _ {M : Type 1} {𝓤 : URA M} {H : Heap 𝓤} {A : Atoms 𝓤} {K : Type 
       assigns t (addr t (at t eˣ (stop t))) (at t ey (stop t)) (init t 4 refl (tt, tt)) $
       -- the local is lent
       move t (3 ∷ []) $ use1 W (‵ (mem F.the-row .lies h lx zero)) (lies 𝓤 H A W h lx zero was) $ lft-new t tt (λ ν. move t (1 ∷ []) $
-      use1 W (later (some (λ (γ : GName). ‵ (behind (ν ∷ []) lx zero γ h) ⊛ ‵ (flent (ν ∷ []) (Body (mem F.the-row) lx zero γ))))) (lends-ref 𝓤 H A W F.the-row (named 1) (ν ∷ []) h lx zero) $
+      use1 W (later (some (λ (γ : GName). ‵ (behind (ν ∷ []) lx zero γ h) ⊛ ‵ (flent (ν ∷ []) (Body (mem F.the-row) lx zero γ)))))
+      (lends-ref 𝓤 H A W F.the-row (named 1) (ν ∷ []) h lx zero) $
       await t tt $ pick t (λ γ. split t $
       -- [the reference; the lender's part; its token; the function's token; what is passed on; _2; _y; room for _r, _z, _0]
       move t (3 ∷ 2 ∷ 4 ∷ 0 ∷ []) $ join t $ use3 W (raw (Thin .pre (to ν γ))) (asked ν γ) $ calls-at t fm Thin known (to ν γ) (os ν γ) (λ w.
       use1 W (later (some (λ (n : Followed). ((‵ (flft κ q) ⊛ ‵ (flft (ν ∷ []) fullShare) ⊛ ‵ ftrue) ⊛ ‵ (S.the-row .own n (w ∷ [])))
-      ⊛ some (λ (u : Unit {0} × (Follower × X)). ‵ (fsep ftrue (fsep (fres γ (F.the-row .coded .code (u .1 .0))) L)) ⊛ raw (fact 𝓤 ((n ≡ a .answer) × (u .1 .0 ≡ a .follower))))))) (says ν γ w) $
+      ⊛ some (λ (u : Unit {0} × (Follower × X)). ‵ (fsep ftrue (fsep (fres γ (F.the-row .coded .code (u .1 .0))) L))
+      ⊛ raw (fact 𝓤 ((n ≡ a .answer) × (u .1 .0 ≡ a .follower))))))) (says ν γ w) $
       await t tt $ pick t (λ n. split t $ move t (1 ∷ []) $ pick t (λ u. split t $ move t (1 ∷ []) $ heard t ((n ≡ a .answer) × (u .1 .0 ≡ a .follower)) (λ e.
       fsplit t $ drop t $ fsplit t $ rewrite t zero (λ (v : Follower). ‵ (fres γ (F.the-row .coded .code v))) (e .1) refl $ move t (1 ∷ []) $ drop t $
       move t (1 ∷ []) $ split t $ move t (1 ∷ []) $ rewrite t zero (λ (v : Followed). ‵ (S.the-row .own v (w ∷ []))) (e .0) refl $
@@ -320,7 +329,7 @@ module _ {M : Type 1} {𝓤 : URA M} {H : Heap 𝓤} {A : Atoms 𝓤} {K : Type 
       land t (at t er (stop t)) (init t 4 refl (answer-typed 𝓤 H A W (a .answer) isA)) $
       rewrite t 4 (λ (u : Val). ‵ (cell S′.mir lr u)) (ap only (EL.tells S.the-type S′.the-laws (a .answer) _ isA)) refl $
       assigns t (of-opd t (load t (at t eˣ (stop t)) (look t zero refl))) (at t ez (stop t)) (init t 5 refl (typed 𝓤 H A W (a .follower) isF)) $
-      assigns t (agg t (and-then t (load t (at t er (stop t)) (look t 4 refl)) (and-then t (load t (at t ez (stop t)) (look t 5 refl)) (no-more t)))) (at t e₀ (stop t))
-      (init t 6 refl (moved-typed 𝓤 H A W a (of-fields a isA isF))) $
+      assigns t (agg t (and-then t (load t (at t er (stop t)) (look t 4 refl)) (and-then t (load t (at t ez (stop t)) (look t 5 refl)) (no-more t))))
+      (at t e₀ (stop t)) (init t 6 refl (moved-typed 𝓤 H A W a (of-fields a isA isF))) $
       returned t e₀ (look t 6 refl) $ forget t zero refl $ forget t 2 refl $ forget t 3 refl $ forget t 4 refl $ forget t 5 refl $ forget t 6 refl $
       move t (1 ∷ []) $ k (of-fields a isA isF)))))))))

@@ -1,4 +1,5 @@
--- The laws. Kit and Lent serve the walks of the functions to which the state itself is lent.
+-- The laws. Of the walks of functions to which the state itself is lent: Kit only passes names of the logic on, and Lent
+-- is what they share.
 pub mod Bytes
 pub mod Calls
 pub mod Copies

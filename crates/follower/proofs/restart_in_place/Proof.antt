@@ -48,36 +48,45 @@ module _ {M : Type 1} (𝓤 : URA M) (H : Heap 𝓤) (A : Atoms 𝓤) (W : Given
     abbrev Post : Val → SProp 𝓤
     Post = walkOf 𝓤 H A f.ended stayed (f.clauses 𝓤 H A mem run) .post y
 
-    exits : IsAnswer (a .answer) → ent 𝓤 (⋆ 𝓤 H A (Held 𝓤 H A W κ q s κ′ q′ b o γ (a .follower))) (Post (answer-val (a .answer)))
+    exits : IsAnswer (a .answer) → ent 𝓤 (⋆ 𝓤 H A (Held κ q κ′ q′ b o γ (a .follower))) (Post (answer-val (a .answer)))
     exits is =
-        qed W (Held 𝓤 H A W κ q s κ′ q′ b o γ (a .follower)) ∵
-        suffices ! _ (ends-at 𝓤 H A f.ended stayed (f.clauses 𝓤 H A mem run) W y (answer-val (a .answer)) (a .answer) (tt, (a .follower, tt)) (tt, (tt, tt))) $
-        says ! (refl, refl) $ by ! (thin-ends 𝓤 H A W κ q s κ′ q′ b o γ (a .follower) (a .answer) is ftrue (id⊢ 𝓤 (emp 𝓤)))
+        qed W (Held κ q κ′ q′ b o γ (a .follower)) ∵
+        suffices ! _ (ends-at 𝓤 H A f.ended stayed (f.clauses 𝓤 H A mem run) W y (answer-val (a .answer)) (a .answer)
+        (tt, (a .follower, tt)) (tt, (tt, tt))) $
+        says ! (refl, refl) $ by ! (thin-ends 𝓤 H A W κ q κ′ q′ b o γ (a .follower) (a .answer) is ftrue (id⊢ 𝓤 (emp 𝓤)))
 
     module _ (C : Calls 𝓤 H) (Λ : Loops 𝓤 H) (fm : FmC 𝓤 H (W .laws) C) (known : Triple 𝓤 (C #core) (Core 𝓤 H A mem run)) where
       walk : Is (ShrSlice (named 0) κ u8) s (slice s ∷ [])
-          → ent 𝓤 (onEntry 𝓤 H A f.signature (κ, (κ′, tt)) (q, (q′, tt)) (y .0 .3) (y .0 .4)) (WpFn 𝓤 H C Λ code.function (slice s ∷ vptr b o ∷ []) Post)
-      walk p = via 𝓤 _ (thin-begins 𝓤 H A W κ q s κ′ q′ b o γ h ftrue) (
-          qed W (‵ (chart κ s) ∷ Held 𝓤 H A W κ q s κ′ q′ b o γ h) ∵ enter ! C Λ code.function (slice s ∷ vptr b o ∷ []) _ $
+          → ent 𝓤 (onEntry 𝓤 H A f.signature (κ, (κ′, tt)) (q, (q′, tt)) (y .0 .3) (y .0 .4))
+          (WpFn 𝓤 H C Λ code.function (slice s ∷ vptr b o ∷ []) Post)
+      walk p = via 𝓤 _ (thin-begins 𝓤 H A W κ q κ′ q′ b o γ s h ftrue) (
+          qed W (‵ (chart κ s) ∷ Held κ q κ′ q′ b o γ h) ∵ enter ! C Λ code.function (slice s ∷ vptr b o ∷ []) _ $
           alloc1 ! (λ l₀. alloc1 ! (λ l₁. alloc1 ! (λ l₂. alloc1 ! (λ l₃. alloc1 ! (λ l₄. alloc0 ! $ params1 ! $
-          pass1 ! (init ! 6 refl (shr-slice-lawful 𝓤 H A W (named 0) κ u8 .typed s (slice s ∷ []) p .0)) $ pass1 ! (init ! 4 refl (tt, tt)) $ pass0 ! $
+          pass1 ! (init ! 6 refl (shr-slice-lawful 𝓤 H A W (named 0) κ u8 .typed s (slice s ∷ []) p .0)) $
+          pass1 ! (init ! 4 refl (tt, tt)) $ pass0 ! $
           -- [room for _4; what frees it; _3; …; _2; …; _1; …; room for _0; …; the chart; what is held of the follower]
           move ! (11 ∷ 12 ∷ 13 ∷ 14 ∷ 10 ∷ 4 ∷ 0 ∷ 2 ∷ 8 ∷ []) $ thin-body ! fm (Core 𝓤 H A mem run) known x h a refl refl refl refl
-          (λ was. core-asked 𝓤 H A W κ q s h was ftrue (id⊢ 𝓤 (emp 𝓤))) (λ us. sem 𝓤 H A (lasts g.ended (κ, tt) (x .0 .3) us)) (λ w. id⊢ 𝓤 _)
+          (λ was. core-asked 𝓤 H A W κ q s h was ftrue (id⊢ 𝓤 (emp 𝓤)))
+          (λ us. sem 𝓤 H A (lasts g.ended (κ, tt) (x .0 .3) us)) (λ w. id⊢ 𝓤 _)
           (and-then ! (local ! 12 refl) (and-then ! (local ! 6 refl) (no-more !))) (λ is.
           -- [what is held of the follower; room for _2, _4, _3, _0; what frees _4, _3, _2; _1; …; what frees _0]
           forget ! 11 refl $ move ! (7 ∷ 13 ∷ 11 ∷ 12 ∷ 4 ∷ 10 ∷ 6 ∷ 9 ∷ 5 ∷ 8 ∷ []) $
           free1 ! $ free1 ! $ free1 ! $ free1 ! $ free1 ! $ free0 ! $ by ! (exits is))))))))
 
-  meets : (𝓣 : Tables 𝓤 H) → Triple 𝓤 (𝓣 .C #core) (Core 𝓤 H A mem run) → Meets 𝓤 H A f.signature (WpFn 𝓤 H (𝓣 .C) (𝓣 .Λ) code.function) (f.spec 𝓤 H A mem run)
+  meets : (𝓣 : Tables 𝓤 H) → Triple 𝓤 (𝓣 .C #core) (Core 𝓤 H A mem run)
+      → Meets 𝓤 H A f.signature (WpFn 𝓤 H (𝓣 .C) (𝓣 .Λ) code.function) (f.spec 𝓤 H A mem run)
   meets 𝓣 known =
-      walk-meets 𝓤 H A f.ended stayed W
-      (goes-dropped 𝓤 H A W 2 Chart₂ yes (λ κs x f. refl), (goes-ref 𝓤 H A W 2 1 tt (plain (λ _. F.the-row)), tt))
+      walk-meets 𝓤 H A f.ended stayed W (
+        goes-dropped 𝓤 H A W 2 Chart₂ yes (λ κs x f. refl),
+        (goes-ref 𝓤 H A W 2 1 tt (plain (λ _. F.the-row)), tt),
+      )
       (f.clauses 𝓤 H A mem run) (WpFn 𝓤 H (𝓣 .C) (𝓣 .Λ) code.function) (WpFn-mono 𝓤 H (W .laws) 𝓣 code.function)
-      (walked 𝓤 H A f.ended stayed (f.clauses 𝓤 H A mem run) (WpFn 𝓤 H (𝓣 .C) (𝓣 .Λ) code.function) (λ κs. (slice-vals, (ptr-vals, tt)))
+      (walked 𝓤 H A f.ended stayed (f.clauses 𝓤 H A mem run) (WpFn 𝓤 H (𝓣 .C) (𝓣 .Λ) code.function)
+      (λ κs. (slice-vals, (ptr-vals, tt)))
       (λ κs. (shr-slice-tells (named 0) (κs .0) u8, (mut-tells (named 1) (κs .1 .0) F.the-row, tt)))
-      (λ κs qs bounds v _ are. via 𝓤 _ (fst∗ 𝓤 _ (emp 𝓤)) (walk (κs .0) (κs .1 .0) (qs .0) (qs .1 .0) (v .0) (v .1 .0 .ptr .0) (v .1 .0 .ptr .1) (v .1 .0 .name) (v .1 .0 .now)
-      (𝓣 .C) (𝓣 .Λ) (fmOf 𝓤 H (W .laws) 𝓣) known (are .0))))
+      (λ κs qs bounds v _ are. via 𝓤 _ (fst∗ 𝓤 _ (emp 𝓤))
+      (walk (κs .0) (κs .1 .0) (qs .0) (qs .1 .0) (v .0)
+      (v .1 .0 .ptr .0) (v .1 .0 .ptr .1) (v .1 .0 .name) (v .1 .0 .now) (𝓣 .C) (𝓣 .Λ) (fmOf 𝓤 H (W .laws) 𝓣) known (are .0))))
 
 pub restart-in-place-spec : {M : Type 1} → stated.statement M
 unfolding code.routine tablesOf

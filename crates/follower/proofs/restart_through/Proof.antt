@@ -50,32 +50,41 @@ module _ {M : Type 1} (𝓤 : URA M) (H : Heap 𝓤) (A : Atoms 𝓤) (W : Given
 
     exits : IsMoved a → ent 𝓤 (A .lft κ q) (Post (moved-val a))
     exits is =
-        qed W (‵ (flft κ q) ∷ []) ∵ suffices ! _ (ends-at 𝓤 H A f.ended stayed (f.clauses 𝓤 H A mem run) W y (moved-val a) a (tt, (tt, tt)) (tt, (tt, tt))) $
-        says ! refl $ by ! (through-ends 𝓤 H A W κ q s a is ftrue (id⊢ 𝓤 (emp 𝓤)))
+        qed W (‵ (flft κ q) ∷ []) ∵ suffices ! _ (ends-at 𝓤 H A f.ended stayed (f.clauses 𝓤 H A mem run) W y (moved-val a) a
+        (tt, (tt, tt)) (tt, (tt, tt))) $
+        says ! refl $ by ! (through-ends 𝓤 H A W κ q a is ftrue (id⊢ 𝓤 (emp 𝓤)))
 
     module _ (C : Calls 𝓤 H) (Λ : Loops 𝓤 H) (fm : FmC 𝓤 H (W .laws) C) (known : Triple 𝓤 (C #thin) (Thin 𝓤 H A mem run)) where
       walk : Is (ShrSlice (named 0) κ u8) s (slice s ∷ [])
-          → ent 𝓤 (onEntry 𝓤 H A f.signature (κ, tt) (q, tt) (y .0 .3) (y .0 .4)) (WpFn 𝓤 H C Λ code.function (slice s ∷ val h ∷ []) Post)
+          → ent 𝓤 (onEntry 𝓤 H A f.signature (κ, tt) (q, tt) (y .0 .3) (y .0 .4))
+          (WpFn 𝓤 H C Λ code.function (slice s ∷ val h ∷ []) Post)
       walk p = via 𝓤 _ (through-begins 𝓤 H A W κ q s h ftrue) (
           qed W (‵ (flft κ q) ∷ ‵ (chart κ s) ∷ []) ∵ enter ! C Λ code.function (slice s ∷ val h ∷ []) _ $
           alloc1 ! (λ l₀. alloc1 ! (λ l₁. alloc1 ! (λ l₂. alloc1 ! (λ l₃. alloc1 ! (λ l₄. alloc1 ! (λ l₅. alloc1 ! (λ l₆. alloc0 ! $ params1 ! $
-          pass1 ! (init ! 10 refl (shr-slice-lawful 𝓤 H A W (named 0) κ u8 .typed s (slice s ∷ []) p .0)) $ pass1 ! (init ! 8 refl (typed 𝓤 H A W h was)) $ pass0 ! $
+          pass1 ! (init ! 10 refl (shr-slice-lawful 𝓤 H A W (named 0) κ u8 .typed s (slice s ∷ []) p .0)) $
+          pass1 ! (init ! 8 refl (typed 𝓤 H A W h was)) $ pass0 ! $
           -- [room for _6; what frees it; _5; …; _4; …; _3; …; _2; …; _1; …; room for _0; …; the token; the chart]
           move ! (14 ∷ 15 ∷ 8 ∷ 6 ∷ 2 ∷ 4 ∷ 0 ∷ 12 ∷ []) $ through-body ! fm (Thin 𝓤 H A mem run) known (x l₃) h a refl refl refl refl refl refl was
-          (λ ν γ. thin-asked 𝓤 H A W κ q s (ν ∷ []) fullShare l₃ 0 γ h ftrue (id⊢ 𝓤 (emp 𝓤))) (Unit {0}) ftrue (λ ν γ w. id⊢ 𝓤 _)
+          (λ ν γ. thin-asked 𝓤 H A W κ q (ν ∷ []) fullShare l₃ 0 γ s h ftrue (id⊢ 𝓤 (emp 𝓤)))
+          (Unit {0}) ftrue (λ ν γ w. id⊢ 𝓤 _)
           (λ ν γ. and-then ! (local ! 12 refl) (and-then ! (local ! 3 refl) (no-more !))) (λ is.
           -- [the token; room for _3, _2, _5, _4, _6, _0; what frees _6, _5, _4, _3, _2; _1; …; what frees _0]
           forget ! 12 refl $ move ! (6 ∷ 14 ∷ 12 ∷ 13 ∷ 2 ∷ 11 ∷ 1 ∷ 10 ∷ 4 ∷ 9 ∷ 3 ∷ 8 ∷ 5 ∷ 7 ∷ []) $
           free1 ! $ free1 ! $ free1 ! $ free1 ! $ free1 ! $ free1 ! $ free1 ! $ free0 ! $ by ! (exits is))))))))))
 
-  meets : (𝓣 : Tables 𝓤 H) → Triple 𝓤 (𝓣 .C #thin) (Thin 𝓤 H A mem run) → Meets 𝓤 H A f.signature (WpFn 𝓤 H (𝓣 .C) (𝓣 .Λ) code.function) (f.spec 𝓤 H A mem run)
+  meets : (𝓣 : Tables 𝓤 H) → Triple 𝓤 (𝓣 .C #thin) (Thin 𝓤 H A mem run)
+      → Meets 𝓤 H A f.signature (WpFn 𝓤 H (𝓣 .C) (𝓣 .Λ) code.function) (f.spec 𝓤 H A mem run)
   meets 𝓣 known =
-      walk-meets 𝓤 H A f.ended stayed W
-      (goes-dropped 𝓤 H A W 1 Chart₁ yes (λ κs x f. refl), (goes-dropped 𝓤 H A W 1 (plain (λ _. F.the-row)) yes (λ κs x f. refl), tt))
+      walk-meets 𝓤 H A f.ended stayed W (
+        goes-dropped 𝓤 H A W 1 Chart₁ yes (λ κs x f. refl),
+        (goes-dropped 𝓤 H A W 1 (plain (λ _. F.the-row)) yes (λ κs x f. refl), tt),
+      )
       (f.clauses 𝓤 H A mem run) (WpFn 𝓤 H (𝓣 .C) (𝓣 .Λ) code.function) (WpFn-mono 𝓤 H (W .laws) 𝓣 code.function)
-      (walked 𝓤 H A f.ended stayed (f.clauses 𝓤 H A mem run) (WpFn 𝓤 H (𝓣 .C) (𝓣 .Λ) code.function) (λ κs. (slice-vals, (vals, tt)))
+      (walked 𝓤 H A f.ended stayed (f.clauses 𝓤 H A mem run) (WpFn 𝓤 H (𝓣 .C) (𝓣 .Λ) code.function)
+      (λ κs. (slice-vals, (vals, tt)))
       (λ κs. (shr-slice-tells (named 0) (κs .0) u8, (tells, tt)))
-      (λ κs qs bounds v _ are. via 𝓤 _ (fst∗ 𝓤 _ (emp 𝓤)) (walk (κs .0) (qs .0) (v .0) (v .1 .0) (are .1 .0) (𝓣 .C) (𝓣 .Λ) (fmOf 𝓤 H (W .laws) 𝓣) known (are .0))))
+      (λ κs qs bounds v _ are. via 𝓤 _ (fst∗ 𝓤 _ (emp 𝓤))
+      (walk (κs .0) (qs .0) (v .0) (v .1 .0) (are .1 .0) (𝓣 .C) (𝓣 .Λ) (fmOf 𝓤 H (W .laws) 𝓣) known (are .0))))
 
 pub restart-through-spec : {M : Type 1} → stated.statement M
 unfolding code.routine tablesOf
