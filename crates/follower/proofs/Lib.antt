@@ -1,2 +1,4 @@
 -- The laws.
 pub mod Bytes
+pub mod Calls
+pub mod Lists
