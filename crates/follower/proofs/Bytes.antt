@@ -5,7 +5,7 @@ use mathlib.Core.Logic.{_⊎_, inl, inr, _↔_, Iff·trans, ⊎-elim}
 use mathlib.Core.Bool.{Bool, true, false, cond, true≢false}
 use mathlib.Core.List.{List, [], _∷_, List·Memᴰ, List·Memᴰ·head, List·Memᴰ·tail, List·Memᴰ·not-nil, List·Memᴰ·cases-cons}
 use Prim.Native.Nat.{ℕ, zero, suc, _+_, _-_, _*_, _/_, _%_, _^_, _≤_, _<_}
-use native.Mathlib.Nat.{add-mul-div-left, div-eq-of-lt, pow-suc, eq-or-lt-of-le, le-of-suc-le-suc, le-refl}
+use native.Mathlib.Nat.{add-mul-div-left, div-eq-of-lt, pow-suc, eq-or-lt-of-le, le-of-suc-le-suc}
 use native.Mathlib.Decide.{decLt}
 use native.Mathlib.Omega.{arith}
 use lib.Dec.{eqb, ltb}
@@ -111,7 +111,9 @@ module _ (p : ℕ → Bool) where
 -- THE BITS DETERMINE THE BYTES
 pub same-bytes : (s t : List ℕ) → length s ≡ 16 → length t ≡ 16 → Bytes s → Bytes t
     → ((v : ℕ) → v < 128 → hasBit s v ≡ hasBit t v) → s ≡ t
-same-bytes s t l m B C f = ext-getD 0 s t (l ∙ sym m) (λ i h. same-word _ _ (λ k. (carried s t B f i k (omega arith), carried t s C (λ v g. sym (f v g)) i k (omega arith))))
+same-bytes s t l m B C f =
+    ext-getD 0 s t (l ∙ sym m)
+    (λ i h. same-word _ _ (λ k. (carried s t B f i k (omega arith), carried t s C (λ v g. sym (f v g)) i k (omega arith))))
   where
     bit : (u : List ℕ) (i k : ℕ) → k < 8 → hasBit u (8 * i + k) ≡ eqb (getD u i 0 / 2 ^ k % 2) 1
     bit u i k h =

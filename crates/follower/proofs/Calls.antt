@@ -1,244 +1,305 @@
--- What the code of a call finds, by sets and marks, is what the definitions say of the state's bytes.
-use Prim.Native.Nat.{ℕ, _+_, _*_, _/_, _%_, _≤_, _<_}
-use mathlib.Core.Path.{_≡_, refl, sym, _∙_, ap, ap₂, subst}
-use mathlib.Core.Logic.{_≢_, _⊎_, inr, ⊎-elim, _↔_, Iff·symm, Iff·trans, by-cases}
-use mathlib.Core.Bool.{Bool, true, false, true≢false}
-use mathlib.Core.List.{List, [], _∷_, List·Memᴰ, List·Memᴰ·head, List·Memᴰ·not-nil, List·Memᴰ·eq-of-singleton}
-use native.Mathlib.Decide.{decLt}
+-- One call: what the definitions answer and leave is what document 01 says, both ways.
+use Prim.Native.Nat.{ℕ, _<_, _≤_}
+use mathlib.Core.Path.{_≡_, refl, sym, ap, _∙_}
+use mathlib.Core.Logic.{_≢_, _↔_, Iff·rfl, Iff·symm, Iff·trans, ⊎-elim, by-cases}
+use mathlib.Core.Bool.{Bool, true, false}
+use mathlib.Core.List.{List, [], _∷_, List·Memᴰ, List·Memᴰ·head, List·Memᴰ·eq-of-singleton}
+use native.Mathlib.Decide.{ℕ-discrete}
 use native.Mathlib.Omega.{arith}
+use lib.ListN.{length}
 use borrow.Author.Tests.{eq-eqb, ne-eqb}
-use lib.Dec.{eqb, ltb}
-use lib.ListN.{length, getD}
-use Rattle.theory.specs.Tests.{Decides, someIn}
-use Rattle.theory.specs.Transitions.{Transition}
-use Rattle.theory.specs.Followers.{View, Shows, keep, fresh, go, Offered}
-use Rattle.theory.specs.Events.{event, restart, taken, not-possible, Word, answer, told, replyTo}
-use Rattle.theory.specs.Runs.{Machine, system, MembersOf, nonempty, viewOf, leftBy}
-use Rattle.theory.proofs.Tests.{is-false, decides-same, decides-and, decides-not, decides-eqb, decides-ltb, decides-leb, decides-in, decides-listed}
-use Rattle.theory.proofs.Search.{look-below}
-use Rattle.theory.proofs.Followers.{one-view}
-use Rattle.theory.proofs.Runs.{view-shows, effect-members, chart-machine}
-use Rattle.bits.specs.Bits.{Bytes, hasBit}
-use Rattle.bits.specs.declared.sets.Set.{Set}
-use Rattle.bits.specs.Words.{On}
-use Rattle.bits.specs.Sets.{Has, emptySet, Empty, Last, Members, BytesOf}
-use Rattle.bits.proofs.Determined.{test-one}
-use Rattle.bits.proofs.Members.{none, has?}
-use Rattle.report.specs.declared.Followed.the-variants.{Taken, NotPossible, Refused, FollowerSet}
+use Rattle.theory.specs.Systems.{System}
+use Rattle.theory.specs.Tests.{Decides}
+use Rattle.theory.specs.Followers.{StateSet, SameMembers, Closed, Shows, Effect, keep, fresh, empty, go, FollowerRule, Responds}
+use Rattle.theory.specs.Events.{Call, restart, event, Answer, taken, told, replyTo, eventRule}
+use Rattle.theory.specs.Runs.{viewOf, leftBy, callOn}
+use Rattle.theory.proofs.Tests.{decided, is-false, decides-same, decides-and, decides-not, decides-leb, decides-in}
+use Rattle.theory.proofs.Systems.{identity, lift-equal, equal-lift}
+use Rattle.theory.proofs.Followers.{shows-carried, responds-agree, responds-carried, responds-within, responds-some, chart-closed}
+use Rattle.theory.proofs.Events.{restart-taken, event-never-empties}
+use Rattle.theory.proofs.Runs.{view-shows, call-responds, chart-machine}
+use Rattle.report.specs.declared.Followed.{Followed}
+use Rattle.report.specs.declared.Followed.the-variants.{Refused, FollowerSet}
 use Rattle.report.specs.declared.Place.{Place}
+use Rattle.report.specs.declared.Stage.{Stage}
 use Rattle.report.specs.declared.Stage.the-variants as stage
+use Rattle.bits.specs.Bits.{Bytes, hasBit}
 use Rattle.chart.specs.Bodies.{verticesOf, startOf, WellFormed}
 use Rattle.chart.specs.Checks.{checkOf}
-use Rattle.chart.specs.Steps.{transitionsOf, ActsOf}
-use Rattle.chart.specs.Images.{Image, Offers, Marks, markedOf}
-use Rattle.chart.proofs.Checks.{well-formed}
+use Rattle.chart.proofs.Checks.{well-formed, passes, check-20, check-21}
+use Rattle.chart.proofs.Refusals.{refused-places}
 use Rattle.chart.proofs.Relations.{acts-member}
-use Rattle.chart.proofs.Rows.{to-low}
+use Rattle.follower.specs.States.{membersOf, stateOf, machineOf, setTest, followedAs, answerOf, bytesBy, bytesAfter, eventOf, restartFrom, restartLent, eventLent}
 use Rattle.follower.specs.declared.Follower.{Follower}
 use Rattle.follower.specs.declared.Moved.{Moved}
-use Rattle.follower.specs.Parts.{CountOffered}
-use Rattle.follower.specs.States.{membersOf, stateOf, machineOf, setTest, followedAs, answerOf, bytesAfter, moved, restarted, restartFrom, eventOf, eventLent, restartLent}
-use Rattle.follower.proofs.Bytes.{set-length, set-bytes, set-bit, same-bytes, list-from→, list-from←, list-ascends, members-are}
+use Rattle.follower.specs.FollowerAnswers.{chartOf, Gives, StateBytes, InState, FreshStart, SetPasses, Ready, CallAnswer, other-header, faulty-at, no-set, ruled, LentAnswer, other-length, other-chart, sixteen-bytes}
+use Rattle.follower.specs.Lists.{called, lentCalled}
+use Rattle.follower.proofs.Bytes.{set-length, set-bytes, same-bytes, members-are, state-members}
 
--- the set and the list have the same members
-abbrev pub Same : Set → List ℕ → Type 0
-Same set xs = (v : ℕ) → Has set v ↔ List·Memᴰ v xs
-
--- the set that is read from a state's bytes
-pub read-same : (s : List ℕ) {set : Set} → Members (λ (w : ℕ). On (getD s (0 + w / 8) 0) (w % 8)) set → Same set (membersOf s)
-read-same s {set} M v = (
-  (λ h. members-are s v .1 (h .below, decides-eqb _ 1 .1 (rw (zero-plus (v / 8)) at (M .exactly v (h .below) .0 h)))),
-  (λ m. let (l, e) = members-are s v .0 m in M .exactly v l .1 (rw (zero-plus (v / 8)) (decides-eqb _ 1 .0 e))),
-)
+-- STATES with the same vertices are the same bytes
+pub same-state : {s t : List ℕ} → StateBytes s → StateBytes t → ((v : ℕ) → InState s v ↔ InState t v) → s ≡ t
+same-state {s} {t} S T e =
+    same-bytes s t (S .sixteen) (T .sixteen) (S .bytes) (T .bytes)
+    (λ v h. same (hasBit s v) (hasBit t v) (λ i. e v .0 (h, i) .1) (λ i. e v .1 (h, i) .1))
   where
-    zero-plus : (n : ℕ) → 0 + n ≡ n
-    zero-plus n = omega arith
+    same : (p q : Bool) → (p ≡ true → q ≡ true) → (q ≡ true → p ≡ true) → p ≡ q
+    same true q f g = sym (f refl)
+    same false true f g = g refl
+    same false false f g = refl
 
--- the bytes of a set are those of a list with the same members
-pub bytes-same : {r : List ℕ} (xs : List ℕ) {set : Set} → BytesOf set r → Same set xs → r ≡ stateOf xs
-bytes-same {r} xs {set} B S = same-bytes r (stateOf xs) (B .long) (set-length _) (B .below) (set-bytes _)
-    (λ v l. test-one (hasBit r v) (hasBit (stateOf xs) v) (in-set v l)
-    (rw (set-bit (λ w. someIn (eqb w) xs) v l) (decides-same (Iff·symm (S v)) (decides-listed v xs))))
-  where
-    in-set : (v : ℕ) → v < 128 → Decides (hasBit r v) (Has set v)
-    in-set v l = decides-same (B .exactly v l) (decides-eqb _ 1)
+pub state-of : (xs : List ℕ) → StateBytes (stateOf xs)
+state-of xs = record { sixteen = set-length _; bytes = set-bytes _ }
 
-module _ (b : List ℕ) (W : WellFormed b) (B : Bytes b) where
-  abbrev M : Machine
-  M = machineOf b
+-- what is left may be said by any set with its members
+left-same : (rule : FollowerRule) {M : System} {P Q Z : StateSet M} {k l : rule .Kept} {c : rule .Call} {x : rule .Answer}
+    → SameMembers M Q Z → Responds rule M P k c x Q l → Responds rule M P k c x Z l
+left-same rule {M} e r = record {
+  before = r .before;
+  after = r .after;
+  shown-before = r .shown-before;
+  shown-after = shows-carried (identity M) (lift-equal e) (r .shown-after);
+  members = λ y. Iff·trans (Iff·symm (e y)) (r .members y);
+  answer = r .answer;
+  kept = r .kept;
+}
 
-  -- the moves of the body's machine are the body's transitions
-  move-acts : (u a w : ℕ) → List·Memᴰ (a, w) (M .moves u) ↔ ActsOf b u a w
-  move-acts u a w = (
-    (λ m. let (x, s, e) = chart-machine (startOf b) (transitionsOf b) .forth u u refl a w m in acts-member b u a w .1 (rw e s)),
-    (λ k. let (x, s, e) = chart-machine (startOf b) (transitionsOf b) .back u u refl a w (acts-member b u a w .0 k) in subst (λ (y : ℕ). List·Memᴰ (a, y) (M .moves u)) e s),
-  )
-
-  -- THE TARGETS by an action
-  pub image-same : {set targets : Set} {xs : List ℕ} {a : ℕ} → Same set xs → Members (Image b set a) targets → Same targets (leftBy M (go a) xs)
-  image-same {set} {targets} {xs} {a} S I w = (
-    (λ h. let (u, m, k) = I .exactly w (h .below) .0 h in effect-members M (go a) xs w .1 (u, S u .0 m, move-acts u a w .1 k)),
-    (λ m. let (u, g, j) = effect-members M (go a) xs w .0 m in
-        let k = move-acts u a w .0 j in
-        I .exactly w (omega (arith, k .enters, to-low W (k .at) (k .within))) .1 (u, S u .1 g, k)),
-  )
-
-  -- WHAT IS SHOWN: whether the end is in the set, and the actions that are marked
-  module _ {set : Set} {xs marks : List ℕ} (S : Same set xs) (K : Marks (Offers b set) marks) {end : Bool} (E : Decides end (Has set 0)) where
-    offers-same : (a : ℕ) → List·Memᴰ a (markedOf marks) ↔ Offered (system M) (MembersOf M xs) a
-    offers-same a = (
-      (λ m. let (p, l, e) = list-from→ _ 0 256 a m in
-          let o = K .exactly a (omega (arith, l)) .0 (decides-eqb _ 1 .0 e) in
-          (o .acts .to, (o .from, S _ .0 (o .member), move-acts _ a _ .1 (o .acts .acts)))),
-      (λ (w, (u, g, j)). let k = move-acts u a w .0 j in
-          let l : a < 256 = omega (arith, k .holds .is, B (4 * k .at + 4 + 1)) in
-          list-from← _ 0 256 a (omega arith) (omega (arith, l)) (decides-eqb _ 1 .1 (K .exactly a l .1 (record { from = u; member = S u .1 g; acts = record { to = w; acts = k } })))),
-    )
-
-    shown : Shows (system M) (MembersOf M xs) (record { some = nonempty xs; end = end; offered = markedOf marks })
-    shown = record {
-      some = view-shows M xs .some;
-      end = decides-same ((λ h. (0, S 0 .0 h, refl)), (λ (x, m, e). subst (Has set) (decides-eqb x 0 .0 e) (S x .1 m))) E;
-      ascending = list-ascends _ 0 256;
-      offered = offers-same;
-    }
-
-    pub told-same : (w : Word) → told w (viewOf M xs) ≡ answer w end (length (markedOf marks))
-    told-same w = ap (told w) (one-view (system M) (view-shows M xs) shown)
-
-  -- AN EVENT over bytes whose set has a member
-  module _ (s : List ℕ) {set targets : Set} {a : ℕ} (S : Same set (membersOf s)) (some : ¬ Empty set) (I : Members (Image b set a) targets) where
-    has-some : nonempty (membersOf s) ≡ true
-    has-some = go (membersOf s) (λ v h. S v .0 h)
-      where
-        go : (xs : List ℕ) → ((v : ℕ) → Has set v → List·Memᴰ v xs) → nonempty xs ≡ true
-        go [] f = absurd (some (λ v h. List·Memᴰ·not-nil (f v h)))
-        go (x ∷ xs) f = refl
-
-    offers : Decides (someIn (eqb a) (viewOf M (membersOf s) .offered)) (¬ Empty targets)
-    offers = decides-same (Iff·trans (view-shows M (membersOf s) .offered a) (to, from)) (decides-listed a (viewOf M (membersOf s) .offered))
-      where
-        to : Offered (system M) (MembersOf M (membersOf s)) a → ¬ Empty targets
-        to (w, n) e = e w (image-same S I w .1 (effect-members M (go a) (membersOf s) w .1 n))
-
-        from : ¬ Empty targets → Offered (system M) (MembersOf M (membersOf s)) a
-        from n = ⊎-elim
-            (λ (w, l, h). (w, effect-members M (go a) (membersOf s) w .0 (image-same S I w .0 h)))
-            (λ g. absurd (n (λ w h. g w (h .below) h)))
-            (look-below (has? targets) 128)
-
-    pub event-keeps : Empty targets → (answerOf b s (event a) ≡ followedAs (told not-possible (viewOf M (membersOf s)))) × (bytesAfter b s (event a) ≡ s)
-    unfolding answerOf bytesAfter
-    event-keeps e = let q = is-false offers (λ n. n e) in (rw (has-some, q) refl, rw (has-some, q) refl)
-
-    pub event-goes : ¬ Empty targets
-        → (answerOf b s (event a) ≡ followedAs (told taken (viewOf M (leftBy M (go a) (membersOf s))))) × (bytesAfter b s (event a) ≡ stateOf (leftBy M (go a) (membersOf s)))
-    unfolding answerOf bytesAfter
-    event-goes n = let q = offers .1 n in (rw (has-some, q) refl, rw (has-some, q) refl)
-
--- 53
-module _ {set : Set} where
-  pub fits-empty : {n : ℕ} → Empty set → (false ≡ true) ↔ ((¬ Empty set) × ((w : ℕ) → Has set w → w < n))
-  fits-empty e = ((λ f. absurd (true≢false (sym f))), (λ (s, g). absurd (s e)))
-
-  pub fits-highest : {h n : ℕ} → Last set h → (ltb h n ≡ true) ↔ ((¬ Empty set) × ((w : ℕ) → Has set w → w < n))
-  fits-highest {h} {n} L = (
-    (λ e. let l = decides-ltb h n .0 e in ((λ s. s h (L .has)), λ w g. by-cases (decLt h w) (λ k. absurd (L .above w k g)) (λ k. omega (arith, l, k)))),
-    (λ (s, g). decides-ltb h n .1 (g h (L .has))),
-  )
-
-pub set-tested : (b s : List ℕ) {set : Set} → Same set (membersOf s) → Decides (setTest b s) ((¬ Empty set) × ((w : ℕ) → Has set w → w < verticesOf b))
+-- THE TEST of 53 decides what 53 asks
+pub tests-set : (b s : List ℕ) → Decides (setTest b s) (SetPasses b s)
 unfolding setTest
-set-tested b s {set} S =
-    decides-same (to, from)
-    (decides-and (view-shows (machineOf b) (membersOf s) .some) (decides-not (decides-in (λ v. decides-leb (verticesOf b) v) (membersOf s))))
-  where
-    to : ((x : ℕ) × List·Memᴰ x (membersOf s)) × (¬ ((x : ℕ) × List·Memᴰ x (membersOf s) × (verticesOf b ≤ x))) → (¬ Empty set) × ((w : ℕ) → Has set w → w < verticesOf b)
-    to ((x, m), n) = ((λ e. e x (S x .1 m)), λ w h. by-cases (decLt w (verticesOf b)) (λ l. l) (λ l. absurd (n (w, S w .0 h, omega arith))))
-
-    from : (¬ Empty set) × ((w : ℕ) → Has set w → w < verticesOf b) → ((x : ℕ) × List·Memᴰ x (membersOf s)) × (¬ ((x : ℕ) × List·Memᴰ x (membersOf s) × (verticesOf b ≤ x)))
-    from (n, f) = (
-      ⊎-elim (λ (x, l, h). (x, S x .0 h)) (λ g. absurd (n (λ w h. g w (h .below) h))) (look-below (has? set) 128),
-      λ (x, m, l). omega (arith, l, f x (S x .1 m)),
+tests-set b s =
+    decides-same (
+      (λ ((v, m), none). record {
+        some = (v, members-are s v .0 m);
+        below = λ w i. below w (λ l. none (w, members-are s w .1 i, l));
+      }),
+      (λ p. (
+        (p .some .0, members-are s _ .1 (p .some .1)),
+        λ (v, m, l). omega (arith, p .below v (members-are s v .0 m)),
+      )),
     )
+    (decides-and (view-shows (machineOf b) (membersOf s) .some)
+    (decides-not (decides-in (λ v. decides-leb (verticesOf b) v) (membersOf s))))
+  where
+    below : (w : ℕ) → ¬ (verticesOf b ≤ w) → w < verticesOf b
+    below w n = omega arith
 
--- THE CODE'S ANSWERS, over a body that passes 20 and 21
-module _ (b : List ℕ) (C : checkOf b ≡ stage.Passed) (B : Bytes b) where
-  abbrev Well : WellFormed b
-  Well = well-formed b C
+-- what is handed back or left is the rule's, over the chart of the body
+pub record Ruled (b s : List ℕ) (c : Call) (m : Moved) : Type 0 where
+  pub answer : Answer
+  pub answered : m .answer ≡ followedAs answer
+  pub state : StateBytes (m .follower .set)
+  pub responds : Responds eventRule (chartOf b) (InState s) tt c answer (InState (m .follower .set)) tt
 
-  module _ (f : Follower) {set : Set} (S : Same set (membersOf (f .set))) (a : ℕ) where
-    pub event-53 : ¬ ((¬ Empty set) × ((w : ℕ) → Has set w → w < verticesOf b)) → eventOf b f a ≡ moved FollowerSet (f .set)
-    unfolding eventOf
-    event-53 n = rw (C, is-false (set-tested b (f .set) S) n) refl
+-- OVER A BODY THAT PASSES
+module _ {b : List ℕ} (W : WellFormed b) where
+  closed : Closed (chartOf b) (λ v. v < verticesOf b)
+  closed =
+      chart-closed (W .header .start-high)
+      (λ u a w m. let s = acts-member b u a w .1 m in omega (arith, s .enters, W .each (s .at) (s .within) .to-high))
 
-    module _ (fits : (¬ Empty set) × ((w : ℕ) → Has set w → w < verticesOf b)) {targets : Set} (I : Members (Image b set a) targets) where
-      passes-53 : eventOf b f a ≡ moved (answerOf b (f .set) (event a)) (bytesAfter b (f .set) (event a))
-      unfolding eventOf
-      passes-53 = rw (C, set-tested b (f .set) S .1 fits) refl
+  -- the list of a state shows what its set does
+  shown : (s : List ℕ) → Shows (chartOf b) (InState s) (viewOf (machineOf b) (membersOf s))
+  shown s = shows-carried (chart-machine _ _) (lift-equal (members-are s)) (view-shows (machineOf b) (membersOf s))
 
-      pub event-stays : Empty targets → {end : Bool} {n : ℕ} → Decides end (Has set 0) → CountOffered b set n → moved (NotPossible end n) (f .set) ≡ eventOf b f a
-      event-stays e {end} {n} E K =
-          let (p, q) = event-keeps b Well B (f .set) S (fits .0) I e in
-          sym (passes-53 ∙ ap₂ moved (p ∙ ap followedAs (told-same b Well B S (K .exactly) E not-possible) ∙ ap (NotPossible end) (sym (K .many))) q)
+  -- the list that a call leaves, by the rule over the chart
+  listed : (s : List ℕ) (c : Call) → let t = callOn eventRule (machineOf b) (tt, membersOf s) c in
+      Responds eventRule (chartOf b) (InState s) tt c (t .0) (λ v. List·Memᴰ v (t .1 .1)) tt
+  listed s c =
+      let r = call-responds (machineOf b) eventRule (tt, membersOf s) c in
+      let (Z, q, m) = responds-carried (chart-machine _ _) eventRule (lift-equal (members-are s)) r in
+      left-same eventRule (λ v. Iff·symm (equal-lift m v)) q
 
-      pub event-moves : ¬ Empty targets → {end : Bool} {n : ℕ} {r : List ℕ} → Decides end (Has targets 0) → CountOffered b targets n → BytesOf targets r
-          → moved (Taken end n) r ≡ eventOf b f a
-      event-moves e {end} {n} {r} E K R =
-          let (p, q) = event-goes b Well B (f .set) S (fits .0) I e in
-          let T = image-same b Well B S I in
-          sym (passes-53 ∙ ap₂ moved (p ∙ ap followedAs (told-same b Well B T (K .exactly) E taken) ∙ ap (Taken end) (sym (K .many))) (q ∙ sym (bytes-same _ R T)))
+  -- the bytes of a list of vertices have just these
+  bytes-of : (xs : List ℕ) → ((v : ℕ) → List·Memᴰ v xs → v < verticesOf b) → (v : ℕ) → List·Memᴰ v xs ↔ InState (stateOf xs) v
+  bytes-of xs h v = (
+    λ m. let l = h v m in members-are (stateOf xs) v .0 (state-members xs v .1 (omega (arith, l, W .header .vertices-high), m)),
+    λ i. state-members xs v .0 (members-are (stateOf xs) v .1 i) .1,
+  )
 
-  pub restart-moves : {set : Set} → ((y : ℕ) → Has set y ↔ (y ≡ startOf b)) → {end : Bool} {n : ℕ} {r : List ℕ} → Decides end (Has set 0) → CountOffered b set n → BytesOf set r
-      → moved (Taken end n) r ≡ restarted b
-  unfolding answerOf bytesAfter
-  restart-moves {set} H {end} {n} {r} E K R =
-      let T : Same set (startOf b ∷ []) = λ v. ((λ h. List·Memᴰ·head (H v .0 h)), (λ m. H v .1 (List·Memᴰ·eq-of-singleton m))) in
-      sym (ap₂ moved (ap followedAs (told-same b Well B T (K .exactly) E taken) ∙ ap (Taken end) (sym (K .many))) (sym (bytes-same _ R T)))
+  -- so have those that an effect leaves
+  bytes-left : (s : List ℕ) (e : Effect) → ((v : ℕ) → List·Memᴰ v (leftBy (machineOf b) e (membersOf s)) → v < verticesOf b)
+      → (v : ℕ) → List·Memᴰ v (leftBy (machineOf b) e (membersOf s)) ↔ InState (bytesBy b s e) v
+  bytes-left s keep h = members-are s
+  bytes-left s fresh h = bytes-of _ h
+  bytes-left s empty h = bytes-of _ h
+  bytes-left s (go a) h = bytes-of _ h
 
--- the set of the start alone
-pub only-start : (b : List ℕ) {none-yet set : Set} {start : ℕ} → none-yet ≡ emptySet → start ≡ startOf b → ((y : ℕ) → Has set y ↔ (Has none-yet y ⊎ (y ≡ start)))
-    → (y : ℕ) → Has set y ↔ (y ≡ startOf b)
-only-start b e f W y = ((λ h. ⊎-elim (λ g. absurd (none y (rw e at g))) (λ z. z ∙ f) (W y .0 h)), (λ z. W y .1 (inr (z ∙ sym f))))
+  state-left : {s : List ℕ} (e : Effect) → StateBytes s → StateBytes (bytesBy b s e)
+  state-left keep S = S
+  state-left fresh S = state-of _
+  state-left empty S = state-of _
+  state-left (go a) S = state-of _
 
--- 20 AND 21
-module _ (b : List ℕ) (f : Follower) where
-  pub event-refused : (a : ℕ) {p : Place} → checkOf b ≡ stage.Refused p → eventOf b f a ≡ moved (Refused p) (f .set)
+  -- A FRESH START is what a restart leaves: the start's bit alone
+  abbrev freshBytes : List ℕ
+  freshBytes = stateOf (startOf b ∷ [])
+
+  starts : (v : ℕ) → List·Memᴰ v (startOf b ∷ []) ↔ InState freshBytes v
+  starts = bytes-of (startOf b ∷ []) (λ v m. let e : v ≡ startOf b = List·Memᴰ·eq-of-singleton m in omega (arith, e, W .header .start-high))
+
+  pub fresh-start : FreshStart b freshBytes
+  fresh-start = record {
+    state = state-of _;
+    alone = λ v. Iff·trans (Iff·symm (starts v)) (List·Memᴰ·eq-of-singleton, λ e. List·Memᴰ·head e);
+  }
+
+  pub one-fresh-start : {s : List ℕ} → FreshStart b s → s ≡ freshBytes
+  one-fresh-start F = same-state (F .state) (state-of _) (λ v. Iff·trans (F .alone v) (Iff·symm (fresh-start .alone v)))
+
+  pub fresh-passes : {s : List ℕ} → FreshStart b s → SetPasses b s
+  fresh-passes F = record {
+    some = (startOf b, F .alone (startOf b) .1 refl);
+    below = λ v i. let e = F .alone v .0 i in omega (arith, e, W .header .start-high);
+  }
+
+  -- ONE CALL by the rule
+  restart-ruled : (f : Follower) → Ruled b (f .set) restart (restartFrom b f)
+  unfolding restartFrom answerOf bytesAfter
+  restart-ruled f = rw (passes b W) (record {
+    answer = told taken (viewOf (machineOf b) (startOf b ∷ []));
+    answered = refl;
+    state = state-of _;
+    responds = restart-taken (shown (f .set))
+        (shows-carried (chart-machine _ _) (lift-equal starts) (view-shows (machineOf b) (startOf b ∷ [])))
+        (fresh-start .alone);
+  })
+
+  event-ruled : (f : Follower) (a : ℕ) → StateBytes (f .set) → SetPasses b (f .set) → Ruled b (f .set) (event a) (eventOf b f a)
+  unfolding eventOf answerOf bytesAfter
+  event-ruled f a S p =
+      let e = replyTo (event a) (viewOf (machineOf b) (membersOf (f .set))) .effect in
+      let r = listed (f .set) (event a) in
+      rw (passes b W, tests-set b (f .set) .1 p) (record {
+        answer = callOn eventRule (machineOf b) (tt, membersOf (f .set)) (event a) .0;
+        answered = refl;
+        state = state-left e S;
+        responds = left-same eventRule (bytes-left (f .set) e (responds-within eventRule (chartOf b) closed (p .below) r)) r;
+      })
+
+  pub call-ruled : (f : Follower) (c : Call) → StateBytes (f .set) → Ready b (f .set) c → Ruled b (f .set) c (called b f c)
+  call-ruled f restart S p = restart-ruled f
+  call-ruled f (event a) S p = event-ruled f a S p
+
+  -- and 53 passes again
+  pub still-passes : {s t : List ℕ} {c : Call} {x : Answer} → SetPasses b s
+      → Responds eventRule (chartOf b) (InState s) tt c x (InState t) tt → SetPasses b t
+  still-passes p r = record {
+    some = responds-some eventRule (chartOf b) event-never-empties (p .some) r;
+    below = responds-within eventRule (chartOf b) closed (p .below) r;
+  }
+
+-- THE STAGES of a call
+module _ (b : List ℕ) where
+  -- 20 and 21
+  call-refused : (f : Follower) (c : Call) (p : Place) → checkOf b ≡ stage.Refused p → Gives (called b f c) (Refused p) (f .set)
+  unfolding restartFrom eventOf
+  call-refused f restart p e = rw e (refl, refl)
+  call-refused f (event a) p e = rw e (refl, refl)
+
+  -- 53
+  call-no-set : (f : Follower) (c : Call) → WellFormed b → ¬ Ready b (f .set) c → Gives (called b f c) FollowerSet (f .set)
   unfolding eventOf
-  event-refused a c = rw c refl
+  call-no-set f restart W n = absurd (n tt)
+  call-no-set f (event a) W n = rw (passes b W, is-false (tests-set b (f .set)) n) (refl, refl)
 
-  pub restart-refused : {p : Place} → checkOf b ≡ stage.Refused p → restartFrom b f ≡ moved (Refused p) (f .set)
-  unfolding restartFrom
-  restart-refused c = rw c refl
+  ready? : (s : List ℕ) (c : Call) → Dec (Ready b s c)
+  ready? s restart = yes tt
+  ready? s (event a) = decided (tests-set b s)
 
-  pub restart-passed : checkOf b ≡ stage.Passed → restartFrom b f ≡ restarted b
-  unfolding restartFrom
-  restart-passed c = rw c refl
+  -- 20 and 21 are all that the check of the chart refuses
+  chart-answer : {s : List ℕ} {c : Call} (p : Place) → checkOf b ≡ stage.Refused p → CallAnswer b s c (Refused p) s
+  chart-answer p e =
+      ⊎-elim
+      (λ q. rw q (other-header (check-20 b .0 (rw q at e))))
+      (λ (i, q). let (h, f) = check-21 b i .0 (rw q at e) in rw q (faulty-at h f))
+      (refused-places b e)
 
--- LENT BYTES
-module _ (b s : List ℕ) where
-  pub event-lent-refused : (a : ℕ) {p : Place} → checkOf b ≡ stage.Refused p → eventLent b s a ≡ moved (Refused p) s
-  unfolding eventLent
-  event-lent-refused a c = rw c refl
+  given : {s : List ℕ} {c : Call} {m : Moved} {x : Followed} {t : List ℕ} → Gives m x t → CallAnswer b s c x t
+      → CallAnswer b s c (m .answer) (m .follower .set)
+  given (p, q) h = rw (p, q) h
 
-  pub restart-lent-refused : {p : Place} → checkOf b ≡ stage.Refused p → restartLent b s ≡ moved (Refused p) s
-  unfolding restartLent
-  restart-lent-refused c = rw c refl
+  call-answer : (f : Follower) (c : Call) → StateBytes (f .set)
+      → CallAnswer b (f .set) c (called b f c .answer) (called b f c .follower .set)
+  call-answer f c S = go (checkOf b) refl
+    where
+      go : (x : Stage) → checkOf b ≡ x → CallAnswer b (f .set) c (called b f c .answer) (called b f c .follower .set)
+      go (stage.Refused p) e = given (call-refused f c p e) (chart-answer p e)
+      go stage.Passed e =
+          let W = well-formed b e in
+          by-cases (ready? (f .set) c)
+          (λ p. let R = call-ruled W f c S p in given (R .answered, refl) (ruled W p (R .state) (R .responds)))
+          (λ n. given (call-no-set f c W n) (no-set W n))
 
-  module _ (C : checkOf b ≡ stage.Passed) where
-    pub event-lent-length : (a : ℕ) → length s ≢ 16 → eventLent b s a ≡ moved FollowerSet s
-    unfolding eventLent
-    event-lent-length a n = rw (C, ne-eqb (length s) 16 n) refl
+  answer-call : (f : Follower) (c : Call) → StateBytes (f .set) → {x : Followed} {t : List ℕ} → CallAnswer b (f .set) c x t
+      → Gives (called b f c) x t
+  answer-call f c S (other-header h) = call-refused f c _ (check-20 b .1 h)
+  answer-call f c S (faulty-at h e) = call-refused f c _ (check-21 b _ .1 (h, e))
+  answer-call f c S (no-set W n) = call-no-set f c W n
+  answer-call f c S (ruled W p T r) =
+      let R = call-ruled W f c S p in
+      let (e, k, m) = responds-agree (identity (chartOf b)) eventRule (lift-equal (λ v. Iff·rfl)) (R .responds) r in
+      (R .answered ∙ ap followedAs e, same-state (R .state) T (equal-lift m))
 
-    pub restart-lent-length : length s ≢ 16 → restartLent b s ≡ moved FollowerSet s
-    unfolding restartLent
-    restart-lent-length n = rw (C, ne-eqb (length s) 16 n) refl
+  -- ONE CALL answers x and leaves t exactly where document 01 says so
+  pub call-says : (f : Follower) → StateBytes (f .set) → (c : Call) (x : Followed) (t : List ℕ)
+      → Gives (called b f c) x t ↔ CallAnswer b (f .set) c x t
+  call-says f S c x t = ((λ (p, q). rw (p, q) at (call-answer f c S)), answer-call f c S)
 
-    -- the state that is read from them
-    pub event-lent-passed : (a : ℕ) → length s ≡ 16 → {f : Follower} {m : Moved} → f .set ≡ s → m ≡ eventOf b f a → m ≡ eventLent b s a
-    unfolding eventLent
-    event-lent-passed a l e q = q ∙ ap (λ (t : List ℕ). eventOf b (record { set = t }) a) e ∙ sym (rw (C, eq-eqb (length s) 16 l) refl)
+  -- LENT BYTES: sixteen are a state
+  pub lent-sixteen : (s : List ℕ) → length s ≡ 16 → (c : Call) → lentCalled b s c ≡ called b (record { set = s }) c
+  unfolding restartLent eventLent restartFrom eventOf
+  lent-sixteen s l restart = go (checkOf b) refl
+    where
+      go : (x : Stage) → checkOf b ≡ x → restartLent b s ≡ restartFrom b (record { set = s })
+      go stage.Passed e = rw (e, eq-eqb (length s) 16 l)
+      go (stage.Refused p) e = rw e
+  lent-sixteen s l (event a) = go (checkOf b) refl
+    where
+      go : (x : Stage) → checkOf b ≡ x → eventLent b s a ≡ eventOf b (record { set = s }) a
+      go stage.Passed e = rw (e, eq-eqb (length s) 16 l)
+      go (stage.Refused p) e = rw e
 
-    pub restart-lent-passed : length s ≡ 16 → restartLent b s ≡ restarted b
-    unfolding restartLent restartFrom
-    restart-lent-passed l = rw (C, eq-eqb (length s) 16 l) refl
+  lent-refused : (s : List ℕ) (c : Call) (p : Place) → checkOf b ≡ stage.Refused p → Gives (lentCalled b s c) (Refused p) s
+  unfolding restartLent eventLent
+  lent-refused s restart p e = rw e (refl, refl)
+  lent-refused s (event a) p e = rw e (refl, refl)
+
+  -- another number of them
+  lent-other : (s : List ℕ) (c : Call) → WellFormed b → length s ≢ 16 → Gives (lentCalled b s c) FollowerSet s
+  unfolding restartLent eventLent
+  lent-other s restart W n = rw (passes b W, ne-eqb (length s) 16 n) (refl, refl)
+  lent-other s (event a) W n = rw (passes b W, ne-eqb (length s) 16 n) (refl, refl)
+
+  refused-not : {p : Place} → checkOf b ≡ stage.Refused p → ¬ WellFormed b
+  refused-not {p} e W = let q : stage.Refused p ≡ stage.Passed = sym e ∙ passes b W in let z : _≡_ {A = ℕ} 0 1 = cc in omega arith
+
+  lent-given : {s : List ℕ} {c : Call} {m : Moved} {x : Followed} {t : List ℕ} → Gives m x t → LentAnswer b s c x t
+      → LentAnswer b s c (m .answer) (m .follower .set)
+  lent-given (p, q) h = rw (p, q) h
+
+  module _ (s : List ℕ) (B : Bytes s) (c : Call) where
+    state : length s ≡ 16 → StateBytes s
+    state l = record { sixteen = l; bytes = B }
+
+    lent-answer : LentAnswer b s c (lentCalled b s c .answer) (lentCalled b s c .follower .set)
+    lent-answer = go (checkOf b) refl
+      where
+        go : (x : Stage) → checkOf b ≡ x → LentAnswer b s c (lentCalled b s c .answer) (lentCalled b s c .follower .set)
+        go (stage.Refused p) e = lent-given (lent-refused s c p e) (other-chart (refused-not e) (chart-answer p e))
+        go stage.Passed e =
+            let W = well-formed b e in
+            by-cases (ℕ-discrete (length s) 16)
+            (λ l. rw (lent-sixteen s l c) (sixteen-bytes W l (call-answer (record { set = s }) c (state l))))
+            (λ n. lent-given (lent-other s c W n) (other-length W n))
+
+    answer-lent : {x : Followed} {t : List ℕ} → LentAnswer b s c x t → Gives (lentCalled b s c) x t
+    answer-lent (other-length W n) = lent-other s c W n
+    answer-lent (other-chart n (other-header h)) = lent-refused s c _ (check-20 b .1 h)
+    answer-lent (other-chart n (faulty-at h e)) = lent-refused s c _ (check-21 b _ .1 (h, e))
+    answer-lent (other-chart n (no-set W p)) = absurd (n W)
+    answer-lent (other-chart n (ruled W p T r)) = absurd (n W)
+    answer-lent (sixteen-bytes W l h) = rw (lent-sixteen s l c) (answer-call (record { set = s }) c (state l) h)
+
+    -- ONE CALL ON LENT BYTES answers x and leaves t exactly where document 01 says so
+    pub lent-says : (x : Followed) (t : List ℕ) → Gives (lentCalled b s c) x t ↔ LentAnswer b s c x t
+    lent-says x t = ((λ (p, q). rw (p, q) at lent-answer), answer-lent)

@@ -1,7 +1,7 @@
 use mathlib.Core.Path.{_≡_, sym, _∙_}
 use native.Mathlib.Omega.{arith}
 use lib.ListN.{length}
-use Rattle.follower.proofs.Calls.{event-refused}
+use Rattle.follower.proofs.Finds.{event-refused}
 use borrow.Author.Needs.{needs}
 use Rattle.follower.proofs.event.Statement.{statement}
 use Rattle.follower.proofs.event.Tie as tie

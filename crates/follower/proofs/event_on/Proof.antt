@@ -4,7 +4,7 @@ use native.Mathlib.Omega.{arith}
 use borrow.Author.Tests.{not-true, not-false}
 use Rattle.bits.specs.Bits.{Bytes}
 use Rattle.chart.proofs.Checks.{well-formed}
-use Rattle.follower.proofs.Calls.{read-same, event-53, event-stays, event-moves}
+use Rattle.follower.proofs.Finds.{read-same, event-53, event-stays, event-moves}
 use borrow.Author.Needs.{needs}
 use Rattle.follower.proofs.event_on.Statement.{statement}
 use Rattle.follower.proofs.event_on.Tie as tie

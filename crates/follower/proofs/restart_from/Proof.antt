@@ -1,5 +1,5 @@
 use mathlib.Core.Path.{sym, _∙_}
-use Rattle.follower.proofs.Calls.{restart-refused, restart-passed}
+use Rattle.follower.proofs.Finds.{restart-refused, restart-passed}
 use borrow.Author.Needs.{needs}
 use Rattle.follower.proofs.restart_from.Statement.{statement}
 use Rattle.follower.proofs.restart_from.Tie as tie

@@ -2,7 +2,7 @@ use mathlib.Core.Path.{sym, _∙_, ap}
 use native.Mathlib.Omega.{arith}
 use lib.ListN.{length}
 use Rattle.follower.specs.declared.Moved.{Moved}
-use Rattle.follower.proofs.Calls.{restart-lent-refused, restart-lent-length, restart-lent-passed}
+use Rattle.follower.proofs.Finds.{restart-lent-refused, restart-lent-length, restart-lent-passed}
 use borrow.Author.Needs.{needs}
 use Rattle.follower.proofs.restart_lent.Statement.{statement}
 use Rattle.follower.proofs.restart_lent.Tie as tie

@@ -1,7 +1,7 @@
 use native.Mathlib.Omega.{arith}
 use Rattle.bits.specs.Bits.{Bytes}
 use Rattle.chart.proofs.Checks.{well-formed}
-use Rattle.follower.proofs.Calls.{restart-moves, only-start}
+use Rattle.follower.proofs.Finds.{restart-moves, only-start}
 use borrow.Author.Needs.{needs}
 use Rattle.follower.proofs.restart_on.Statement.{statement}
 use Rattle.follower.proofs.restart_on.Tie as tie

@@ -1,6 +1,6 @@
 use mathlib.Core.Path.{sym, _∙_}
 use mathlib.Core.Bool.{true≢false}
-use Rattle.follower.proofs.Calls.{fits-empty, fits-highest}
+use Rattle.follower.proofs.Finds.{fits-empty, fits-highest}
 use borrow.Author.Needs.{needs}
 use Rattle.follower.proofs.set_fits.Statement.{statement}
 use Rattle.follower.proofs.set_fits.Tie as tie
