@@ -2,11 +2,12 @@
 mod common;
 mod followers;
 mod proved;
+use common::in_a_stack;
 use followers::Follower;
 use oracle::gen::lists::{self, Call};
 use oracle::gen::{worst, Rng};
+use oracle::{NOT_POSSIBLE, TAKEN};
 use std::collections::BTreeSet;
-use std::thread;
 
 const LIBRARY: Follower = Follower {
     restart: proved::restart,
@@ -34,21 +35,19 @@ fn starred_run() {
     followers::starred_run(LIBRARY);
 }
 
-/// The thread's own needs among them, so the calls have somewhat less.
 #[test]
 fn in_a_stack_of_32_kib() {
     let mut seen = BTreeSet::new();
-    for (name, yard) in worst::all() {
+    for (_, yard) in worst::all() {
         let list = lists::events(&mut Rng::new(7), &yard, 100);
-        let thread = thread::Builder::new().stack_size(32 * 1024);
-        let calls = thread.spawn(move || {
+        seen.extend(in_a_stack(32, move || {
             let mut state = [0; 16];
             let calls = [Call::Restart].into_iter().chain(list);
             let answers = calls.map(|call| LIBRARY.answer(call, &yard.chart, &mut state));
-            answers.collect::<Vec<_>>()
-        });
-        seen.extend(calls.unwrap().join().expect(name));
+            answers
+                .map(|answer| (answer.n, answer.p))
+                .collect::<Vec<_>>()
+        }));
     }
-    assert!(seen.iter().all(|answer| answer.n == 0), "{seen:?}");
-    assert!(seen.iter().any(|answer| answer.p == 0), "{seen:?}");
+    assert!(seen.into_iter().eq([(0, NOT_POSSIBLE), (0, TAKEN)]));
 }
