@@ -11,7 +11,7 @@ ghost use mathlib.Core.Bool.{true};
 ghost use mathlib.Core.Logic.{_≢_, _⊎_, _↔_};
 ghost use Prim.Native.Nat.{ℕ, max, _+_, _*_, _≤_, _<_, _^_};
 ghost use lib.ListN.{length, getD};
-ghost use Rattle.bits.specs.Bits.{hasBit, HighestByte};
+ghost use Rattle.bits.specs.Bits.{HighestByte};
 ghost use Rattle.bits.specs.Words.{On, LowestOn, HighestOn, With, Without};
 ghost use Rattle.bits.specs.First.{First};
 ghost use Rattle.bits.specs.Counts.{bitsBelow};
@@ -92,17 +92,6 @@ pub fn with_value(byte: u8, i: usize) -> u8
     ensures { λ r. ⌜ With byte i r ⌝ }
 {
     byte | (value(i) as u8)
-}
-
-// Whether v is in a set of bytes.
-pub fn has_bit(set: &[u8], v: usize) -> bool
-    ensures { λ r. ⌜ r ≡ hasBit (now (set .entry)) v ⌝ }
-{
-    let at = v / 8;
-    if at >= set.len() {
-        return false;
-    }
-    (byte(set, at) / value(v % 8)) % 2 == 1
 }
 
 // The lowest bit of a word that is set.

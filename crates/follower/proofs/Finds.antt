@@ -1,5 +1,5 @@
 -- What the code of a call finds, by sets and marks, is what the definitions say of the state's bytes.
-use Prim.Native.Nat.{ℕ, _+_, _*_, _/_, _%_, _≤_, _<_}
+use Prim.Native.Nat.{ℕ, _+_, _*_, _/_, _%_, _<_}
 use mathlib.Core.Path.{_≡_, refl, sym, _∙_, ap, ap₂, subst}
 use mathlib.Core.Logic.{_≢_, _⊎_, inr, ⊎-elim, _↔_, Iff·symm, Iff·trans, by-cases}
 use mathlib.Core.Bool.{Bool, true, false, true≢false}
@@ -10,11 +10,10 @@ use borrow.Author.Tests.{eq-eqb, ne-eqb}
 use lib.Dec.{eqb, ltb}
 use lib.ListN.{length, getD}
 use Rattle.theory.specs.Tests.{Decides, someIn}
-use Rattle.theory.specs.Transitions.{Transition}
-use Rattle.theory.specs.Followers.{View, Shows, keep, fresh, go, Offered}
-use Rattle.theory.specs.Events.{event, restart, taken, not-possible, Word, answer, told, replyTo}
+use Rattle.theory.specs.Followers.{Shows, go, Offered}
+use Rattle.theory.specs.Events.{event, taken, not-possible, Word, answer, told}
 use Rattle.theory.specs.Runs.{Machine, system, MembersOf, nonempty, viewOf, leftBy}
-use Rattle.theory.proofs.Tests.{is-false, decides-same, decides-and, decides-not, decides-eqb, decides-ltb, decides-leb, decides-in, decides-listed}
+use Rattle.theory.proofs.Tests.{is-false, decides-same, decides-eqb, decides-ltb, decides-listed}
 use Rattle.theory.proofs.Search.{look-below}
 use Rattle.theory.proofs.Followers.{one-view}
 use Rattle.theory.proofs.Runs.{view-shows, effect-members, chart-machine}
@@ -38,6 +37,8 @@ use Rattle.follower.specs.declared.Follower.{Follower}
 use Rattle.follower.specs.declared.Moved.{Moved}
 use Rattle.follower.specs.Parts.{CountOffered}
 use Rattle.follower.specs.States.{membersOf, stateOf, machineOf, setTest, followedAs, answerOf, bytesAfter, moved, restarted, restartFrom, eventOf, eventLent, restartLent}
+use Rattle.follower.specs.FollowerAnswers.{InState, SetPasses}
+use Rattle.follower.proofs.Calls.{tests-set}
 use Rattle.follower.proofs.Bytes.{set-length, set-bytes, set-bit, same-bytes, list-from→, list-from←, list-ascends, members-are}
 
 -- the set and the list have the same members
@@ -148,19 +149,19 @@ module _ {set : Set} where
   )
 
 pub set-tested : (b s : List ℕ) {set : Set} → Same set (membersOf s) → Decides (setTest b s) ((¬ Empty set) × ((w : ℕ) → Has set w → w < verticesOf b))
-unfolding setTest
-set-tested b s {set} S =
-    decides-same (to, from)
-    (decides-and (view-shows (machineOf b) (membersOf s) .some) (decides-not (decides-in (λ v. decides-leb (verticesOf b) v) (membersOf s))))
+set-tested b s {set} S = decides-same (to, from) (tests-set b s)
   where
-    to : ((x : ℕ) × List·Memᴰ x (membersOf s)) × (¬ ((x : ℕ) × List·Memᴰ x (membersOf s) × (verticesOf b ≤ x))) → (¬ Empty set) × ((w : ℕ) → Has set w → w < verticesOf b)
-    to ((x, m), n) = ((λ e. e x (S x .1 m)), λ w h. by-cases (decLt w (verticesOf b)) (λ l. l) (λ l. absurd (n (w, S w .0 h, omega arith))))
+    in-set : (v : ℕ) → InState s v ↔ Has set v
+    in-set v = Iff·trans (Iff·symm (members-are s v)) (Iff·symm (S v))
 
-    from : (¬ Empty set) × ((w : ℕ) → Has set w → w < verticesOf b) → ((x : ℕ) × List·Memᴰ x (membersOf s)) × (¬ ((x : ℕ) × List·Memᴰ x (membersOf s) × (verticesOf b ≤ x)))
-    from (n, f) = (
-      ⊎-elim (λ (x, l, h). (x, S x .0 h)) (λ g. absurd (n (λ w h. g w (h .below) h))) (look-below (has? set) 128),
-      λ (x, m, l). omega (arith, l, f x (S x .1 m)),
-    )
+    to : SetPasses b s → (¬ Empty set) × ((w : ℕ) → Has set w → w < verticesOf b)
+    to p = ((λ e. e _ (in-set _ .0 (p .some .1))), λ w h. p .below w (in-set w .1 h))
+
+    from : (¬ Empty set) × ((w : ℕ) → Has set w → w < verticesOf b) → SetPasses b s
+    from (n, f) = record {
+      some = ⊎-elim (λ (x, l, h). (x, in-set x .1 h)) (λ g. absurd (n (λ w h. g w (h .below) h))) (look-below (has? set) 128);
+      below = λ w i. f w (in-set w .0 i);
+    }
 
 -- THE CODE'S ANSWERS, over a body that passes 20 and 21
 module _ (b : List ℕ) (C : checkOf b ≡ stage.Passed) (B : Bytes b) where

@@ -1,7 +1,7 @@
 -- The follower over a chart body, as tests that run: what a call answers, and the state's bytes after it.
 use Prim.Native.Nat.{ℕ}
 use mathlib.Core.Bool.{Bool, cond, _&&_, not}
-use mathlib.Core.List.{List, [], _∷_}
+use mathlib.Core.List.{List}
 use lib.Dec.{eqb, leb}
 use lib.ListN.{length, replicate}
 use Rattle.theory.specs.Tests.{someIn}

@@ -1,5 +1,4 @@
 use mathlib.Core.Path.{_≡_, sym, _∙_}
-use native.Mathlib.Omega.{arith}
 use lib.ListN.{length}
 use Rattle.follower.proofs.Finds.{event-refused}
 use borrow.Author.Needs.{needs}

@@ -1,5 +1,4 @@
 use mathlib.Core.Path.{sym, _∙_, ap}
-use native.Mathlib.Omega.{arith}
 use lib.ListN.{length}
 use Rattle.follower.specs.declared.Moved.{Moved}
 use Rattle.follower.proofs.Finds.{event-lent-refused, event-lent-length, event-lent-passed}

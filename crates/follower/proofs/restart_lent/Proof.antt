@@ -1,6 +1,4 @@
 use mathlib.Core.Path.{sym, _∙_, ap}
-use native.Mathlib.Omega.{arith}
-use lib.ListN.{length}
 use Rattle.follower.specs.declared.Moved.{Moved}
 use Rattle.follower.proofs.Finds.{restart-lent-refused, restart-lent-length, restart-lent-passed}
 use borrow.Author.Needs.{needs}
