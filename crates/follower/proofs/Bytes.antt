@@ -15,7 +15,7 @@ use lib.Seq.{ext-getD}
 use borrow.Author.Tests.{eq-eqb, eqb-true, lt-ltb}
 use Rattle.theory.specs.Ascending.{Below, Ascending}
 use Rattle.theory.specs.Tests.{someIn}
-use Rattle.theory.proofs.Tests.{is-false, decides-listed}
+use Rattle.theory.proofs.Tests.{decides-listed}
 use Rattle.bits.specs.Bits.{Bytes, hasBit, bitsOf, bytesFrom, setBytes, listFrom}
 use Rattle.bits.specs.Words.{On}
 use Rattle.bits.proofs.Words.{bit-below}
@@ -184,14 +184,3 @@ state-members xs v = Iff·trans (members-are (stateOf xs) v) (
   where
     bit : v < 128 → hasBit (stateOf xs) v ≡ someIn (eqb v) xs
     bit h = set-bit (λ v. someIn (eqb v) xs) v h
-
--- the bytes of the members of sixteen bytes are these bytes
-pub state-of-members : (s : List ℕ) → length s ≡ 16 → Bytes s → stateOf (membersOf s) ≡ s
-state-of-members s l B = same-bytes (stateOf (membersOf s)) s (set-length _) l (set-bytes _) B each
-  where
-    each : (v : ℕ) → v < 128 → hasBit (stateOf (membersOf s)) v ≡ hasBit s v
-    each v h = set-bit (λ v. someIn (eqb v) (membersOf s)) v h ∙ same (hasBit s v) refl
-      where
-        same : (b : Bool) → hasBit s v ≡ b → someIn (eqb v) (membersOf s) ≡ b
-        same true e = decides-listed v (membersOf s) .1 (members-are s v .1 (h, e))
-        same false e = is-false (decides-listed v (membersOf s)) (λ m. true≢false (sym (members-are s v .0 m .1) ∙ e))

@@ -10,7 +10,7 @@ use lib.ListN.{length}
 use borrow.Author.Tests.{eq-eqb, ne-eqb}
 use Rattle.theory.specs.Systems.{System}
 use Rattle.theory.specs.Tests.{Decides}
-use Rattle.theory.specs.Followers.{StateSet, SameMembers, Closed, Shows, Effect, keep, fresh, empty, go, FollowerRule, Responds}
+use Rattle.theory.specs.Followers.{StateSet, SameMembers, Offered, Closed, Shows, Effect, keep, fresh, empty, go, FollowerRule, Responds}
 use Rattle.theory.specs.Events.{Call, restart, event, Answer, taken, told, replyTo, eventRule}
 use Rattle.theory.specs.Runs.{viewOf, leftBy, callOn}
 use Rattle.theory.proofs.Tests.{decided, is-false, decides-same, decides-and, decides-not, decides-leb, decides-in}
@@ -98,7 +98,7 @@ module _ {b : List ℕ} (W : WellFormed b) where
       (λ u a w m. let s = acts-member b u a w .1 m in omega (arith, s .enters, W .each (s .at) (s .within) .to-high))
 
   -- the list of a state shows what its set does
-  shown : (s : List ℕ) → Shows (chartOf b) (InState s) (viewOf (machineOf b) (membersOf s))
+  pub shown : (s : List ℕ) → Shows (chartOf b) (InState s) (viewOf (machineOf b) (membersOf s))
   shown s = shows-carried (chart-machine _ _) (lift-equal (members-are s)) (view-shows (machineOf b) (membersOf s))
 
   -- the list that a call leaves, by the rule over the chart
@@ -188,6 +188,12 @@ module _ {b : List ℕ} (W : WellFormed b) where
     below = responds-within eventRule (chartOf b) closed (p .below) r;
   }
 
+  -- the event 0 is never possible: no transition has it
+  pub zero-not-offered : (P : StateSet (chartOf b)) → ¬ Offered (chartOf b) P 0
+  zero-not-offered P (w, (v, p, m)) =
+      let s = acts-member b v 0 w .1 m in
+      omega (arith, s .holds .is, W .each (s .at) (s .within) .action-low)
+
 -- THE STAGES of a call
 module _ (b : List ℕ) where
   -- 20 and 21
@@ -270,7 +276,7 @@ module _ (b : List ℕ) where
   lent-other s restart W n = rw (passes b W, ne-eqb (length s) 16 n) (refl, refl)
   lent-other s (event a) W n = rw (passes b W, ne-eqb (length s) 16 n) (refl, refl)
 
-  refused-not : {p : Place} → checkOf b ≡ stage.Refused p → ¬ WellFormed b
+  pub refused-not : {p : Place} → checkOf b ≡ stage.Refused p → ¬ WellFormed b
   refused-not {p} e W = let q : stage.Refused p ≡ stage.Passed = sym e ∙ passes b W in let z : _≡_ {A = ℕ} 0 1 = cc in omega arith
 
   lent-given : {s : List ℕ} {c : Call} {m : Moved} {x : Followed} {t : List ℕ} → Gives m x t → LentAnswer b s c x t

@@ -3,17 +3,16 @@
 use Prim.Native.Nat.{ℕ}
 use mathlib.Core.Path.{_≡_, refl, sym, ap, _∙_, subst}
 use mathlib.Core.Logic.{_≢_}
+use mathlib.Core.Bool.{Bool}
 use mathlib.Core.List.{List, map, List·Memᴰ, Memᴰ·of-map}
-use native.Mathlib.Omega.{arith}
 use lib.ListN.{length}
-use Rattle.theory.specs.Events.{Call, restart, event, Answer, answer, taken, not-possible, refused-53, eventRule}
+use Rattle.theory.specs.Events.{Call, restart, event, Word, Answer, answer, refused-53, eventRule}
 use Rattle.theory.specs.Followers.{Responds}
 use Rattle.theory.specs.Runs.{run}
 use Rattle.theory.proofs.Followers.{one-answers, from-fresh}
 use Rattle.theory.proofs.Events.{never-refused}
 use Rattle.theory.proofs.Runs.{run-follows}
 use Rattle.report.specs.declared.Followed.{Followed}
-use Rattle.report.specs.declared.Followed.the-variants.{FollowerSet}
 use Rattle.chart.specs.Bodies.{WellFormed}
 use Rattle.chart.proofs.Checks.{passes}
 use Rattle.follower.specs.declared.Follower.{Follower}
@@ -83,12 +82,13 @@ module _ {b : List ℕ} {cs : List Call} where
   one-by-rule R Z = R .written ∙ ap (map followedAs) (one-answers eventRule (chartOf b) (R .rule) (Z .rule)) ∙ sym (Z .written)
 
   -- and none is a refusal
-  pub never-53 : {ys : List Followed} → ByRule b cs ys → (y : Followed) → List·Memᴰ y ys → y ≢ FollowerSet
-  never-53 R y m e =
+  pub none-refused : {ys : List Followed} → ByRule b cs ys → (y : Followed) → List·Memᴰ y ys
+      → (w : Word) × (end : Bool) × (offered : ℕ) × (y ≡ followedAs (answer w end offered))
+  none-refused R y m =
       let (x, i, q) = Memᴰ·of-map followedAs (R .answers) (rw (R .written) at m) in
-      never-refused (R .rule) x i (only x (q ∙ e))
+      told x (never-refused (R .rule) x i) (sym q)
     where
-      only : (x : Answer) → followedAs x ≡ FollowerSet → x ≡ refused-53
-      only (answer taken end offered) q = let z : _≡_ {A = ℕ} 0 1 = cc in absurd (omega arith)
-      only (answer not-possible end offered) q = let z : _≡_ {A = ℕ} 0 1 = cc in absurd (omega arith)
-      only refused-53 q = refl
+      told : (x : Answer) → x ≢ refused-53 → y ≡ followedAs x
+          → (w : Word) × (end : Bool) × (offered : ℕ) × (y ≡ followedAs (answer w end offered))
+      told (answer w end offered) n e = (w, end, offered, e)
+      told refused-53 n e = absurd (n refl)
