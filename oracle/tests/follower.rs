@@ -58,3 +58,8 @@ fn all_of_a_small_chart() {
     followers::all_of_a_small_chart(FAST);
     followers::all_of_a_small_chart(BY_VALUE);
 }
+
+#[test]
+fn at_the_limits() {
+    followers::at_the_limits(FAST);
+}

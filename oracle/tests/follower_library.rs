@@ -31,6 +31,11 @@ fn all_of_a_small_chart() {
 }
 
 #[test]
+fn at_the_limits() {
+    followers::at_the_limits(LIBRARY);
+}
+
+#[test]
 fn starred_run() {
     followers::starred_run(LIBRARY);
 }

@@ -299,3 +299,14 @@ pub fn starred_run(follower: Follower) {
         assert_eq!(state, 1u128.to_le_bytes(), "the end alone");
     }
 }
+
+/// Calls over the largest charts.
+pub fn at_the_limits(follower: Follower) {
+    let mut trial = Trial::of(follower);
+    for (name, mut made) in gen::worst::follower_calls() {
+        assert_eq!(made.chart[..4], [128, 127, 0, 32], "{name}");
+        trial.call(made.call, &made.chart, &mut made.state, &name);
+    }
+    let events = [FOLLOWED[1], FOLLOWED[3], FOLLOWED[5]];
+    trial.saw(&RESTARTED[1..], &events, 1, 8);
+}
