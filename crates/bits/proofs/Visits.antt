@@ -1,5 +1,5 @@
 -- Going over the members of a set, the lowest first; and the set written as bytes by it.
-use Prim.Native.Nat.{ℕ, _/_, _%_, _<_}
+use Prim.Native.Nat.{ℕ, _+_, _*_, _/_, _%_, _<_}
 use mathlib.Core.Path.{_≡_, refl, sym, _∙_}
 use mathlib.Core.Logic.{_≢_, inl, inr, ⊎-elim, _↔_, by-cases}
 use mathlib.Core.Bool.{Bool, true, not, true≢false}
@@ -7,14 +7,15 @@ use mathlib.Core.List.{List}
 use native.Mathlib.Decide.{ℕ-discrete, decLt}
 use native.Mathlib.Omega.{arith}
 use lib.ListN.{length, getD, set, length-set, replicate}
-use lib.Seq.{getD-set-same, getD-set-other}
+use lib.Seq.{getD-set-same, getD-set-other, ext-getD}
 use borrow.Author.Tests.{not-true}
 use Rattle.bits.specs.declared.sets.Set.{Set}
 use Rattle.bits.specs.First.{First}
 use Rattle.bits.specs.Words.{On, With}
 use Rattle.bits.specs.Sets.{Has, Empty, sizeOf, BytesOf}
 use Rattle.bits.proofs.Gains.{blank}
-use Rattle.bits.proofs.Members.{size-lt, zero-off}
+use Rattle.bits.proofs.Members.{size-lt, zero-off, same-word}
+use Rattle.bits.proofs.Words.{bit-below}
 
 -- u is left of the set s, and then `fewer` is left
 pub record Visit (s left : Set) (u : ℕ) (fewer : Set) : Type 0 where
@@ -90,3 +91,15 @@ writing-more {s} {left} {fewer} {v} {r} {bytes} T W low I = record {
 
 pub writing-all : {s left : Set} {bytes : List ℕ} → Empty left → Writing s left bytes → BytesOf s bytes
 writing-all E I = record { long = I .long; below = I .below; exactly = λ w h. ((λ on. I .exactly w h .0 on .0), (λ p. I .exactly w h .1 (p, E w))) }
+
+-- one answer
+pub bytes-one : {s : Set} {r t : List ℕ} → BytesOf s r → BytesOf s t → r ≡ t
+bytes-one {s} {r} {t} R T = ext-getD 0 r t (R .long ∙ sym (T .long)) (λ k h. same-word (getD r k 0) (getD t k 0) (λ j. (bit R T k h j, bit T R k h j)))
+  where
+    bit : {x y : List ℕ} → BytesOf s x → BytesOf s y → (k : ℕ) → k < length r → (j : ℕ) → On (getD x k 0) j → On (getD y k 0) j
+    bit {x} {y} X Y k h j on =
+        let l : j < 8 = bit-below 8 (getD x k 0) j (X .below k) on in
+        let e : (8 * k + j) / 8 ≡ k = omega arith in
+        let f : (8 * k + j) % 8 ≡ j = omega arith in
+        let w : 8 * k + j < 128 = omega (arith, h, R .long, l) in
+        rw (e, f) at (Y .exactly (8 * k + j) w .1 (X .exactly (8 * k + j) w .0 (rw (e, f) on)))

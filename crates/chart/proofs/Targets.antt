@@ -9,7 +9,7 @@ use native.Mathlib.Numerals.{add-one}
 use native.Mathlib.Omega.{arith}
 use lib.Dec.{eqb}
 use lib.ListN.{length, getD, set, length-set, replicate, List·getD-eq-default}
-use lib.Seq.{getD-set-same, getD-set-other}
+use lib.Seq.{getD-set-same, getD-set-other, ext-getD}
 use Rattle.theory.specs.Tests.{Decides}
 use Rattle.theory.proofs.Tests.{decided, decides-same, decides-and, decides-eqb, decides-below}
 use Rattle.bits.specs.Bits.{listFrom}
@@ -155,3 +155,15 @@ count-end p {n} {i} h = let r : n - i ≡ 0 = omega arith in rw r refl
 pub flag-low : (b : Bool) → cond b 1 0 ≤ 1
 flag-low true = omega arith
 flag-low false = omega arith
+
+-- one answer
+pub marks-one : {P : ℕ → Type 0} {a b : List ℕ} → Marks P a → Marks P b → a ≡ b
+marks-one {P} {a} {b} M N = ext-getD 0 a b (M .long ∙ sym (N .long)) (λ i h. same i (omega (arith, M .long, h)))
+  where
+    same : (i : ℕ) → i < 256 → getD a i 0 ≡ getD b i 0
+    same i h =
+        by-cases (ℕ-discrete (getD a i 0) 1)
+        (λ e. e ∙ sym (N .exactly i h .1 (M .exactly i h .0 e)))
+        (λ n. by-cases (ℕ-discrete (getD b i 0) 1)
+        (λ e. absurd (n (M .exactly i h .1 (N .exactly i h .0 e))))
+        (λ m. omega (arith, M .low i, N .low i, n, m)))
