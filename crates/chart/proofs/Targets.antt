@@ -1,10 +1,11 @@
 -- The targets of a set by an action, and the actions that it offers, gathered vertex by vertex.
-use Prim.Native.Nat.{ℕ, suc, _+_, _-_, _≤_, _<_}
+use Prim.Native.Nat.{ℕ, suc, _+_, _-_, _*_, _≤_, _<_}
 use mathlib.Core.Path.{_≡_, refl, sym, _∙_, subst}
 use mathlib.Core.Logic.{_≢_, inl, inr, ⊎-elim, by-cases}
 use mathlib.Core.Bool.{Bool, true, false, cond}
 use mathlib.Core.List.{List, _∷_}
 use native.Mathlib.Decide.{ℕ-discrete, decLt}
+use native.Mathlib.Nat.{eq-or-lt-of-le, le-refl}
 use native.Mathlib.Numerals.{add-one}
 use native.Mathlib.Omega.{arith}
 use lib.Dec.{eqb}
@@ -12,20 +13,65 @@ use lib.ListN.{length, getD, set, length-set, replicate, List·getD-eq-default}
 use lib.Seq.{getD-set-same, getD-set-other, ext-getD}
 use Rattle.theory.specs.Tests.{Decides}
 use Rattle.theory.proofs.Tests.{decided, decides-same, decides-and, decides-eqb, decides-below}
-use Rattle.bits.specs.Bits.{listFrom}
+use Rattle.bits.specs.Bits.{Bytes, listFrom}
 use Rattle.bits.specs.declared.sets.Set.{Set}
 use Rattle.bits.specs.First.{Split}
 use Rattle.bits.specs.Sets.{Has, emptySet, Empty, Members, Union}
+use Rattle.report.specs.declared.Stage.the-variants as stage
+use Rattle.chart.proofs.Checks.{well-formed}
+use Rattle.chart.proofs.Order.{begin-order, begin-high, at-mid}
 use Rattle.bits.proofs.Gains.{blank}
 use Rattle.bits.proofs.Members.{none}
 use Rattle.bits.proofs.Visits.{Visit}
-use Rattle.chart.specs.Bodies.{countOf, fromOf, actionOf}
-use Rattle.chart.specs.Leaving.{FromBelow}
+use Rattle.chart.specs.Bodies.{countOf, fromOf, actionOf, WellFormed}
+use Rattle.chart.specs.Checks.{checkOf}
+use Rattle.chart.specs.Leaving.{FromBelow, Begins}
 use Rattle.chart.specs.Steps.{Acts, ActsOf}
-use Rattle.chart.specs.Images.{Image, ActsFrom, Offers, Marks, MarksMore}
+use Rattle.chart.specs.Images.{Image, ActsFrom, Offers, Marks, MarksMore, Stretch, Lower}
 
 pub decides-acts : {body : List ℕ} {i b : ℕ} (a : ℕ) → b ≡ actionOf body i → Decides (eqb b a) (Acts body a i)
 decides-acts {b = b} a e = decides-same ((λ p. record { is = sym e ∙ p }), (λ q. e ∙ q .is)) (decides-eqb b a)
+
+-- THE ACTIONS of one vertex do not fall
+actions-sorted : (b : List ℕ) → Bytes b → WellFormed b → (i j : ℕ) → i ≤ j → j < countOf b → fromOf b i ≡ fromOf b j → actionOf b i ≤ actionOf b j
+actions-sorted b B W i j l h e =
+    ⊎-elim (λ z. subst (λ (x : ℕ). actionOf b i ≤ actionOf b x) z (le-refl _))
+    (λ m. let k = W .ascending i j m h in omega (arith, k, e, B (4 * j + 4 + 2)))
+    (eq-or-lt-of-le l)
+
+module _ {b : List ℕ} {u at end a : ℕ} (B : Bytes b) (S : Stretch b u at end) where
+  pub lower-none : Lower b a at end at
+  lower-none = record { from = le-refl at; to = S .order; below = λ k p q. absurd (omega (arith, p, q)) }
+
+  pub lower-more : {i x : ℕ} → Lower b a at end i → i + 8 ≤ end → x ≡ actionOf b (i + 7) → x < a → Lower b a at end (i + 8)
+  lower-more {i} {x} L h e l = record {
+    from = omega (arith, L .from);
+    to = h;
+    below = λ k p q. by-cases (decLt k i) (L .below k p) (λ g.
+        let s = actions-sorted b B (well-formed b (S .passed)) k (i + 7) (omega (arith, q)) (omega (arith, h, S .within)) (S .leaves k p (omega (arith, q, h)) ∙ sym (S .leaves (i + 7) (omega (arith, L .from)) (omega (arith, h)))) in
+        omega (arith, s, e, l));
+  }
+
+  -- from one that is higher on, none has the action
+  pub higher-rest : {i x : ℕ} → at ≤ i → i < end → x ≡ actionOf b i → a < x → Split (FromBelow b (u + 1)) (countOf b) end
+      → (k : ℕ) → i ≤ k → k < countOf b → fromOf b k ≡ u → ¬ Acts b a k
+  higher-rest {i} {x} f h e l T k p q z y = by-cases (decLt k end)
+      (λ g. let s = actions-sorted b B (well-formed b (S .passed)) i k p q (S .leaves i f h ∙ sym z) in omega (arith, s, e, l, y .is))
+      (λ g. T .above k (omega (arith, g)) q (record { is = omega (arith, z) }))
+
+  -- before the place where it is not lower, neither
+  pub lower-nothing : {i : ℕ} → Lower b a at end i → Split (FromBelow b u) (countOf b) at → (k : ℕ) → k < i → fromOf b k ≡ u → ¬ Acts b a k
+  lower-nothing L T k p z y = by-cases (decLt k at)
+      (λ g. omega (arith, T .below k g .is, z))
+      (λ g. omega (arith, L .below k (omega (arith, g)) p, y .is))
+
+pub row-stretch : {b begins : List ℕ} {u : ℕ} → checkOf b ≡ stage.Passed → Begins b begins → u < 128 → Stretch b u (getD begins u 0) (getD begins (u + 1) 0)
+row-stretch {u = u} C R h = record {
+  passed = C;
+  order = begin-order R u h;
+  within = begin-high R u h;
+  leaves = at-mid (R .split u (omega (arith, h))) (R .split (u + 1) (omega (arith, h)));
+}
 
 -- THE TARGETS of the vertices of the set that are left no longer
 pub record ImageTo (b : List ℕ) (s left : Set) (a w : ℕ) : Type 0 where

@@ -10,7 +10,23 @@ ghost use Rattle.bits.specs.Sets.{Members};
 ghost use Rattle.chart.specs.Checks.{checkOf};
 ghost use Rattle.chart.specs.Leaving.{Begins};
 ghost use Rattle.chart.specs.Steps.{ActsOf};
-ghost use Rattle.chart.specs.Images.{Image, ActsFrom, Offers, Marks, MarksMore, markedOf};
+ghost use Rattle.chart.specs.Images.{Image, ActsFrom, Offers, Marks, MarksMore, markedOf, Stretch, Lower};
+
+// From a place among the transitions of u on to another, by eights: their actions do not fall, and those passed are below
+// this one.
+fn skip_lower(body: &[u8], at: usize, end: usize, u: usize, action: usize) -> usize
+    requires { ⌜ Stretch (now body) u at end ⌝ }
+    ensures { λ r. ⌜ Lower (now (body .entry)) action at end r ⌝ }
+{
+    let mut i = at;
+    while i + 8 <= end {
+        if byte(body, 4 * (i + 7) + 4 + 1) >= action {
+            return i;
+        }
+        i += 8;
+    }
+    i
+}
 
 // What the transitions of u with this action lead to.
 fn action_row(body: &[u8], begins: &[usize; 129], u: usize, action: usize) -> Set
@@ -19,10 +35,13 @@ fn action_row(body: &[u8], begins: &[usize; 129], u: usize, action: usize) -> Se
 {
     let end = begins[u + 1];
     let mut set = Set::empty();
-    let mut i = begins[u];
+    let mut i = skip_lower(body, begins[u], end, u, action);
     while i < end {
-        let acts = byte(body, 4 * i + 4 + 1) == action;
-        set = set.with_if(byte(body, 4 * i + 4 + 2), acts);
+        let acting = byte(body, 4 * i + 4 + 1);
+        if acting > action {
+            return set;
+        }
+        set = set.with_if(byte(body, 4 * i + 4 + 2), acting == action);
         i += 1;
     }
     set
