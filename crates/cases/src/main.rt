@@ -120,11 +120,14 @@ fn action(line: &[u8]) -> u8 {
     (number(after(line, 1)) % 256) as u8
 }
 
+// A state that is handed over, and lent on to the functions that update it where it stands.
 fn moved_by_value(chart: &[u8], set: [u8; 16], line: &[u8]) -> Moved {
     if word_of(line) == RESTART {
-        return follower::restart(chart);
+        let fresh = follower::restart(chart);
+        let state = fresh.follower;
+        return follower::restart_through(chart, state);
     }
-    follower::event(chart, Follower { set }, action(line))
+    follower::event_through(chart, Follower { set }, action(line))
 }
 
 // The set is that of the lent state, which becomes what is handed back.
