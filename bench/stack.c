@@ -1,5 +1,5 @@
-/* stack check FILE.. or stack removal FILE..: how many bytes of stack the call uses. The call on each file named is made
- * on a thread of 128 KiB whose stack was filled with a pattern. */
+/* stack check FILE.., stack removal FILE.. or stack follower FILE..: how many bytes of stack the call uses. The call on
+ * each file named is made on a thread of 128 KiB whose stack was filled with a pattern. */
 #include "sequence.h"
 #include <pthread.h>
 #include <stdio.h>
@@ -25,12 +25,28 @@ static void *removal(void *nothing) {
     return nothing;
 }
 
+/* The file has 1 for an event or 0, the action, then the state and the chart. */
+static void *follower(void *nothing) {
+    unsigned char *state = file + 2;
+    unsigned char *chart = state + SEQ_STATE;
+    size_t chart_length = length - 2 - SEQ_STATE;
+    if (file[0])
+        seq_event(chart, chart_length, state, SEQ_STATE, file[1]);
+    else
+        seq_restart(chart, chart_length, state, SEQ_STATE);
+    return nothing;
+}
+
 int main(int count, char **names) {
     if (count < 3) {
-        fprintf(stderr, "stack check|removal FILE..\n");
+        fprintf(stderr, "stack check|removal|follower FILE..\n");
         return 2;
     }
-    void *(*call)(void *) = strcmp(names[1], "removal") == 0 ? removal : check;
+    void *(*call)(void *) = check;
+    if (strcmp(names[1], "removal") == 0)
+        call = removal;
+    else if (strcmp(names[1], "follower") == 0)
+        call = follower;
     size_t most = 0;
     for (int i = 2; i < count; i++) {
         FILE *in = fopen(names[i], "rb");

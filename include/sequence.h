@@ -3,7 +3,7 @@
  * A slice is two arguments, a pointer and then its length in bytes; NULL with length 0 is an empty
  * slice. The slices of one call must not overlap. Whatever the bytes are, a call answers; it keeps no
  * pointer and no state, allocates nothing, and needs memcpy and memset and less than 128 KiB of
- * stack, seq_remove less than 32 KiB. */
+ * stack, seq_remove, seq_restart and seq_event less than 32 KiB. */
 #ifndef SEQUENCE_H
 #define SEQUENCE_H
 
@@ -26,6 +26,9 @@ typedef struct seq_numbers {
 /* The longest yard file, and the longest chart of an expression, in bytes. */
 #define SEQ_LONGEST_FILE 43536
 #define SEQ_LONGEST_CHART 32772
+
+/* The length of a follower's state, in bytes. */
+#define SEQ_STATE 16
 
 /* The verdict on a yard file.
  *
@@ -56,6 +59,27 @@ seq_numbers seq_write_chart(const uint8_t *nodes, size_t nodes_len, uint8_t *out
  * The chart and the labels are only read. */
 seq_numbers seq_remove(const uint8_t *chart, size_t chart_len, const uint8_t *labels, size_t labels_len,
                        size_t vertex, size_t level, uint8_t *standing, size_t standing_len);
+
+/* A follower of events. chart is the body of a record of kind 2, or what seq_write_chart has written.
+ * state is SEQ_STATE bytes, a set of its vertices: vertex v is in it where byte v / 8 has the bit worth
+ * 2 to the power of v % 8. A restart comes first, and makes the set the chart's start alone, whatever it
+ * was; each event after it is lent what the call before left, with the same chart.
+ *
+ * Taken: n 0, p 1, q 1 where the end is in the set and else 0, r the number of different actions that
+ * the vertices of the set offer. The state is the new set.
+ * Refused: n 20 or 21 for the chart; n 53 where state has another length. No byte of state is changed.
+ * The chart is only read. */
+seq_numbers seq_restart(const uint8_t *chart, size_t chart_len, uint8_t *state, size_t state_len);
+
+/* An event: where some transition with this action leaves a vertex of the set, the set becomes all
+ * that such transitions lead to. Action 0 is no transition's.
+ *
+ * Taken: n 0, p 1, q and r as for seq_restart. The state is the new set.
+ * Not possible: n 0, p 0, q and r as for seq_restart. No byte of state is changed.
+ * Refused: n 20 or 21 for the chart; n 53 where state has another length, the set is empty, or a vertex
+ * of it is not below the chart's number of vertices. No byte of state is changed.
+ * The chart is only read. */
+seq_numbers seq_event(const uint8_t *chart, size_t chart_len, uint8_t *state, size_t state_len, uint8_t action);
 
 #ifdef __cplusplus
 }

@@ -1,12 +1,14 @@
-//! The proved check and removal against the second checker's fast ones, on the same bytes in the same run.
+//! The proved check, removal and follower against the second checker's fast ones, on the same bytes in the same run.
 //!
 //! * `bench times` prints a row for each kind of file: microseconds a check of both, and their ratio
-//!   over several runs; `bench removals` such a row for each removal.
+//!   over several runs; `bench removals` such a row for each removal, `bench follower` for each call
+//!   of the follower.
 //! * `bench stages` prints such a row for the files of the mixed corpus that have the same number in
 //!   their answer.
 //! * `bench calls WHO FILE COUNT` makes the call of a file COUNT times, for callgrind to count.
-//! * `bench write FOLDER` writes the named files and removals.
-use oracle::gen::worst::{self, Removal};
+//! * `bench write FOLDER` writes the named files, removals and calls of the follower.
+use oracle::gen::lists;
+use oracle::gen::worst::{self, FollowerCall, Removal};
 use oracle::gen::{self, Yard};
 use oracle::{fast, Answer};
 use std::collections::BTreeMap;
@@ -25,6 +27,11 @@ enum Call {
         /// Those that stand, which a removal that is done clears.
         entries: Vec<usize>,
     },
+    Follow {
+        made: FollowerCall,
+        /// The bytes that are lent.
+        state: [u8; 16],
+    },
 }
 
 impl Call {
@@ -34,8 +41,14 @@ impl Call {
         Call::Remove { removal, entries }
     }
 
+    fn follow(made: FollowerCall) -> Call {
+        let state = made.state;
+        Call::Follow { made, state }
+    }
+
     /// The bytes of a file; those of a removal are its vertex, its level, and its chart, labels and
-    /// standing bytes.
+    /// standing bytes; those of a call of the follower are 1 for an event or 0, its action, the state
+    /// and the chart.
     fn bytes(&self) -> Vec<u8> {
         match self {
             Call::Check(file) => file.clone(),
@@ -49,14 +62,38 @@ impl Call {
                 ]
                 .concat()
             }
+            Call::Follow { made, state } => {
+                let call = match made.call {
+                    lists::Call::Restart => [0, 0],
+                    lists::Call::Event(action) => [1, action],
+                };
+                [&call[..], state, &made.chart].concat()
+            }
         }
     }
 
     fn read(path: &str) -> Call {
         let file = fs::read(path).expect("a file");
-        if !path.ends_with(".removal") {
-            return Call::Check(file);
+        match path.rsplit('.').next() {
+            Some("removal") => Call::read_removal(&file),
+            Some("follower") => Call::read_follow(&file),
+            _ => Call::Check(file),
         }
+    }
+
+    fn read_follow(file: &[u8]) -> Call {
+        let (state, chart) = file[2..].split_at(16);
+        Call::follow(FollowerCall {
+            chart: chart.to_vec(),
+            state: state.try_into().expect("16 bytes"),
+            call: match file[0] {
+                0 => lists::Call::Restart,
+                _ => lists::Call::Event(file[1]),
+            },
+        })
+    }
+
+    fn read_removal(file: &[u8]) -> Call {
         let count = usize::from(u16::from_le_bytes([file[4], file[5]]));
         let (chart, marks) = file[2..].split_at(4 + 4 * count);
         let (labels, standing) = marks.split_at(count);
@@ -75,19 +112,26 @@ impl Call {
 struct Side {
     check: fn(&[u8]) -> Answer,
     remove: fn(&[u8], &[u8], u64, u64, &mut [u8]) -> Answer,
+    restart: fn(&[u8], &mut [u8]) -> Answer,
+    event: fn(&[u8], &mut [u8], u8) -> Answer,
 }
 
 const PROVED: Side = Side {
     check: proved::check,
     remove: proved::remove,
+    restart: proved::restart,
+    event: proved::event,
 };
 const RUST: Side = Side {
     check: fast::check,
     remove: fast::remove,
+    restart: fast::restart_lent,
+    event: fast::event_lent,
 };
 
 impl Side {
-    /// Before a removal its entries are set to 1 again.
+    /// Before a removal its entries are set to 1 again, before a call of the follower its state is
+    /// what it was.
     fn answer(self, call: &mut Call) -> Answer {
         match call {
             Call::Check(file) => (self.check)(file),
@@ -98,6 +142,13 @@ impl Side {
                 let (vertex, level) = (removal.vertex.into(), removal.level.into());
                 let standing = &mut removal.standing;
                 (self.remove)(&removal.chart, &removal.labels, vertex, level, standing)
+            }
+            Call::Follow { made, state } => {
+                *state = made.state;
+                match made.call {
+                    lists::Call::Restart => (self.restart)(&made.chart, state),
+                    lists::Call::Event(action) => (self.event)(&made.chart, state, action),
+                }
             }
         }
     }
@@ -162,13 +213,21 @@ fn named() -> Vec<(String, Call)> {
     }
     yards.push(("refused 44", with_empty_row(worst::full_relation())));
     yards.push(("refused 45", with_last_action(worst::full_relation(), 2)));
-    let check = |(name, yard): (&str, Yard)| (name.replace(' ', "-"), Call::Check(yard.file()));
-    yards.into_iter().map(check).collect()
+    calls_of(yards, |yard| Call::Check(yard.file()))
 }
 
 fn removals() -> Vec<(String, Call)> {
-    let remove = |(name, removal): (&str, _)| (name.replace(' ', "-"), Call::remove(removal));
-    worst::removals().into_iter().map(remove).collect()
+    calls_of(worst::removals(), Call::remove)
+}
+
+fn follower_calls() -> Vec<(String, Call)> {
+    calls_of(worst::follower_calls(), Call::follow)
+}
+
+fn calls_of<T>(named: Vec<(&str, T)>, call: fn(T) -> Call) -> Vec<(String, Call)> {
+    let named = named.into_iter();
+    let call = |(name, what): (&str, T)| (name.replace(' ', "-"), call(what));
+    named.map(call).collect()
 }
 
 /// Seconds for one round over the calls.
@@ -268,7 +327,11 @@ fn calls(who: &str, path: &str, count: u32) {
 }
 
 fn write(folder: &str) {
-    for (extension, calls) in [("yard", named()), ("removal", removals())] {
+    for (extension, calls) in [
+        ("yard", named()),
+        ("removal", removals()),
+        ("follower", follower_calls()),
+    ] {
         for (name, call) in calls {
             let path = format!("{folder}/{name}.{extension}");
             fs::write(path, call.bytes()).expect("the file is written");
@@ -285,11 +348,17 @@ fn main() {
             head("removals");
             rows(removals());
         }
+        ["follower"] => {
+            head("calls");
+            rows(follower_calls());
+        }
         ["stages"] => stages(),
         ["calls", who, path, count] => calls(who, path, count.parse().expect("a number")),
         ["write", folder] => write(folder),
         _ => {
-            eprintln!("bench times | removals | stages | calls WHO FILE COUNT | write FOLDER");
+            eprintln!(
+                "bench times | removals | follower | stages | calls WHO FILE COUNT | write FOLDER"
+            );
             process::exit(2);
         }
     }

@@ -229,7 +229,7 @@ struct Transition {
 }
 
 #[inline]
-fn transition(bytes: &[u8]) -> Transition {
+fn transition(bytes: &[u8; 4]) -> Transition {
     // Vertices are below 128; saying so again spares the bounds checks.
     Transition {
         action: bytes[1],
@@ -290,11 +290,14 @@ impl<'a> Chart<'a> {
         self.rows[vertex] as usize..self.rows[vertex + 1] as usize
     }
 
-    fn leaving(&self, vertex: usize) -> impl Iterator<Item = Transition> + 'a {
+    /// The bytes of the transitions that leave a vertex.
+    fn steps(&self, vertex: usize) -> &'a [[u8; 4]] {
         let row = self.row(vertex);
-        self.transitions[4 * row.start..4 * row.end]
-            .chunks_exact(4)
-            .map(transition)
+        self.transitions[4 * row.start..4 * row.end].as_chunks().0
+    }
+
+    fn leaving(&self, vertex: usize) -> impl Iterator<Item = Transition> + 'a {
+        self.steps(vertex).iter().map(transition)
     }
 }
 
@@ -701,15 +704,7 @@ pub fn event(chart: &[u8], state: [u8; 16], event: u8) -> (Answer, [u8; 16]) {
     if set == 0 || set & !below(chart.vertices) != 0 {
         return (refused(53, 0, 0, 0), state);
     }
-    let mut targets = 0;
-    let mut members = set;
-    while members != 0 {
-        let row = chart.leaving(lowest(members));
-        members &= members - 1;
-        targets |= row
-            .filter(|t| t.action == event)
-            .fold(0, |all, t| all | bit(t.to));
-    }
+    let targets = targets(&chart, set, event);
     if targets == 0 {
         (said(&chart, NOT_POSSIBLE, set), state)
     } else {
@@ -717,16 +712,39 @@ pub fn event(chart: &[u8], state: [u8; 16], event: u8) -> (Answer, [u8; 16]) {
     }
 }
 
+/// All that the members of a set lead to by an action.
+fn targets(chart: &Chart, mut set: Vertices, action: u8) -> Vertices {
+    // One byte a vertex, which is set without asking what it was.
+    let mut reached = [0u8; MOST_VERTICES];
+    while set != 0 {
+        // A row is in order of its actions.
+        let row = chart.steps(lowest(set));
+        set &= set - 1;
+        let row = &row[row.partition_point(|t| t[1] < action)..];
+        let row = &row[..row.partition_point(|t| t[1] == action)];
+        for t in row {
+            reached[(t[2] & 127) as usize] = 1;
+        }
+    }
+    let words = reached.chunks_exact(8).enumerate();
+    words.fold(0, |all, (i, bytes)| {
+        let word = u64::from_le_bytes(bytes.try_into().expect("8 bytes"));
+        // Brings the eight bytes' low bits together.
+        let bits = word.wrapping_mul(0x0102_0408_1020_4080) >> 56;
+        all | (bits as Vertices) << (8 * i)
+    })
+}
+
 fn said(chart: &Chart, word: u64, set: Vertices) -> Answer {
-    let mut offered = [0u64; 4];
+    let mut offered = [0u8; 256];
     let mut members = set;
     while members != 0 {
-        for t in chart.leaving(lowest(members)) {
-            offered[t.action as usize / 64] |= 1 << (t.action % 64);
+        for t in chart.steps(lowest(members)) {
+            offered[t[1] as usize] = 1;
         }
         members &= members - 1;
     }
-    let count = offered.iter().map(|word| word.count_ones() as u64).sum();
+    let count = offered.iter().map(|&action| action as u64).sum();
     Answer::fine(word, (set & 1) as u64, count)
 }
 

@@ -1,9 +1,10 @@
 //! The cases of document 01's last section, starred and not, in its words.
 mod common;
+mod followers;
 mod removals;
 use common::{both, chart, g, two_loops};
 use oracle::gen::Yard;
-use oracle::{fast, plain, Answer, NOT_POSSIBLE, TAKEN};
+use oracle::{fast, plain, Answer};
 
 fn says(yard: &Yard, line: &str) {
     assert_eq!(both(&yard.file(), &line).to_string(), line);
@@ -93,30 +94,7 @@ fn expression_chart_of_g() {
 
 #[test]
 fn following_g() {
-    let chart = g().chart;
-    let said = [
-        Answer::fine(TAKEN, 0, 2),
-        Answer::fine(TAKEN, 1, 0),
-        Answer::fine(NOT_POSSIBLE, 1, 0),
-    ];
-    for (restart, event) in [
-        (
-            plain::restart as fn(&[u8]) -> (Answer, [u8; 16]),
-            plain::event as fn(&[u8], [u8; 16], u8) -> (Answer, [u8; 16]),
-        ),
-        (fast::restart, fast::event),
-    ] {
-        let (answer, mut state) = restart(&chart);
-        assert_eq!(answer, Answer::fine(TAKEN, 0, 2));
-        for (action, wanted) in [1, 2, 1].into_iter().zip(said) {
-            let (answer, after) = event(&chart, state, action);
-            assert_eq!(answer, wanted, "event {action}");
-            state = after;
-        }
-        let mut end_alone = [0; 16];
-        end_alone[0] = 1;
-        assert_eq!(state, end_alone);
-    }
+    followers::starred_run(followers::FAST);
 }
 
 #[test]

@@ -1,12 +1,11 @@
 //! The proved library and the plain checker on many files.
 mod common;
 mod proved;
-use common::{files, first_body, g, two_loops};
+use common::{files, first_body, g, in_a_stack, two_loops};
 use oracle::gen::{self, Rng, Yard, CHECK_REFUSALS};
 use oracle::{plain, Answer};
 use std::collections::BTreeMap;
 use std::fmt::Display;
-use std::thread;
 
 /// How often each number was answered.
 type Seen = BTreeMap<u64, u64>;
@@ -175,15 +174,12 @@ fn in_a_stack_of_128_kib() {
     for (name, yard) in gen::worst::all() {
         let file = yard.file();
         let nodes = yard.expression;
-        let thread = thread::Builder::new().stack_size(128 * 1024);
-        let calls = thread.spawn(move || {
+        let answers = in_a_stack(128, move || {
             let mut out = vec![0; 9_000];
-            (
-                proved::check(&file).n,
-                proved::write_chart(&nodes, &mut out).n,
-            )
+            let checked = proved::check(&file);
+            (checked.n, proved::write_chart(&nodes, &mut out).n)
         });
-        assert_eq!(calls.unwrap().join().expect(name), (0, 0));
+        assert_eq!(answers, (0, 0), "{name}");
     }
 }
 

@@ -1,12 +1,14 @@
 //! The examples of docs/REFUSALS.md: each is the weighbridge's file with some changes and calls, and
 //! what the proved library and the plain checker then answer. Each number has one.
 mod common;
+mod followers;
 mod proved;
 mod removals;
 use common::first_body;
+use followers::Follower;
+use oracle::gen::lists::Call;
 use oracle::gen::{Yard, CHECK_REFUSALS};
 use oracle::{plain, Answer};
-use removals::Trial;
 use std::fs;
 use std::path::Path;
 
@@ -47,6 +49,11 @@ fn examples() -> Vec<Example> {
         }
     }
     found
+}
+
+fn examples_of(number: u64) -> impl Iterator<Item = Example> {
+    let all = examples().into_iter();
+    all.filter(move |example| example.number == number)
 }
 
 fn bytes(text: &str) -> Vec<u8> {
@@ -107,19 +114,36 @@ fn yard(file: &[u8]) -> Yard {
 fn taken(file: &[u8], pair: &str, standing: &mut [u8]) -> Answer {
     let (v, level) = pair.split_once(' ').expect("a vertex and a level");
     let pair = (decimal(v) as u64, decimal(level) as u64);
-    Trial::of(proved::remove).call(&yard(file), pair, standing, &"the page")
+    removals::Trial::of(proved::remove).call(&yard(file), pair, standing, &"the page")
+}
+
+/// A call of the follower over the file's chart.
+fn followed(file: &[u8], call: Call, state: &mut [u8]) -> Answer {
+    let library = Follower {
+        restart: proved::restart,
+        event: proved::event,
+        write_chart: proved::write_chart,
+    };
+    followers::Trial::of(library).call(call, &yard(file).chart, state, &"the page")
 }
 
 /// The numbers of the last call; where there is none, the line for the changed file.
 fn answered(lines: &[String]) -> String {
     let mut file = of_the_repository(FILE);
     let mut standing = vec![1; yard(&file).labelling.len()];
+    let mut state = vec![0; 16];
     let mut last = None;
     for line in lines {
         assert!(!last.is_some_and(|answer: Answer| answer.is_refusal()));
         match line.split_once(' ') {
             Some(("take", pair)) => last = Some(taken(&file, pair, &mut standing)),
             Some(("standing", rest)) => change(&mut standing, rest),
+            Some(("event", action)) => {
+                let call = Call::Event(decimal(action).try_into().expect("an action"));
+                last = Some(followed(&file, call, &mut state));
+            }
+            None if line == "restart" => last = Some(followed(&file, Call::Restart, &mut state)),
+            Some(("state", rest)) => change(&mut state, rest),
             Some(("lend", lent)) => {
                 let (answer, out) = written(decimal(lent));
                 assert!(out.iter().all(|byte| *byte == 0xEE));
@@ -157,18 +181,40 @@ fn each_example_is_answered_as_the_page_says() {
 fn each_number_has_an_example() {
     let mut numbers: Vec<u64> = examples().iter().map(|example| example.number).collect();
     numbers.dedup();
-    assert_eq!(numbers, [&CHECK_REFUSALS[..], &[50, 51, 52, 54]].concat());
+    assert_eq!(
+        numbers,
+        [&CHECK_REFUSALS[..], &[50, 51, 52, 53, 54]].concat()
+    );
 }
 
 /// 50 for the number of bytes and for a byte, 52 with each r.
 #[test]
 fn each_cause_of_50_and_52_has_an_example() {
-    let of = |number| examples().into_iter().filter(move |e| e.number == number);
     let cut = |e: &Example| e.changes[0].starts_with("standing cut");
-    assert!(of(50).any(|e| cut(&e)) && of(50).any(|e| !cut(&e)));
-    let mut broken: Vec<char> = of(52).filter_map(|e| e.line.chars().last()).collect();
+    assert!(examples_of(50).any(|e| cut(&e)) && examples_of(50).any(|e| !cut(&e)));
+    let ends = examples_of(52).filter_map(|e| e.line.chars().last());
+    let mut broken: Vec<char> = ends.collect();
     broken.sort();
     assert_eq!(broken, ['1', '2', '3']);
+}
+
+/// 53 for an empty set, for a vertex, and for the number of bytes at an event and at a restart.
+#[test]
+fn each_cause_of_53_has_an_example() {
+    let changed = |e: &Example, how| {
+        let mut changes = e
+            .changes
+            .iter()
+            .filter_map(|line| line.strip_prefix("state "));
+        changes.any(|change| change.starts_with(how))
+    };
+    let long = |e: &Example| changed(e, "cut") || changed(e, "append");
+    assert!(examples_of(53).any(|e| !changed(&e, "")));
+    assert!(examples_of(53).any(|e| changed(&e, "byte")));
+    for call in ["event", "restart"] {
+        let last = |e: &Example| e.changes.last().is_some_and(|line| line.starts_with(call));
+        assert!(examples_of(53).any(|e| long(&e) && last(&e)), "{call}");
+    }
 }
 
 /// The transition that the page shows for 44, at the place that the example's line names.
@@ -176,7 +222,7 @@ fn each_cause_of_50_and_52_has_an_example() {
 fn the_expression_s_transition_is_the_page_s() {
     let shown = "`0D 03 0B 00`";
     assert!(page().contains(shown));
-    let example = examples().into_iter().find(|e| e.number == 44).unwrap();
+    let example = examples_of(44).next().unwrap();
     let at = 4 + 4 * decimal(example.line.split(' ').last().unwrap());
     let (answer, chart) = written(9_000);
     assert_eq!(answer.n, 0);

@@ -3,10 +3,10 @@
 mod common;
 mod proved;
 mod removals;
+use common::in_a_stack;
 use oracle::gen::{lists, worst, Rng};
 use proved::remove;
 use std::collections::BTreeSet;
-use std::thread;
 
 #[test]
 fn lists_against_the_plain_set() {
@@ -43,19 +43,16 @@ fn worst_files() {
     removals::worst_files(remove);
 }
 
-/// The thread's own needs among them, so the calls have somewhat less.
 #[test]
 fn in_a_stack_of_32_kib() {
     let mut seen = BTreeSet::new();
-    for (name, yard) in worst::all() {
+    for (_, yard) in worst::all() {
         let pairs = lists::removals(&mut Rng::new(7), &yard, 100);
-        let thread = thread::Builder::new().stack_size(32 * 1024);
-        let calls = thread.spawn(move || {
+        seen.extend(in_a_stack(32, move || {
             let mut standing = vec![1; yard.labelling.len()];
             let call = |(v, level)| remove(&yard.chart, &yard.labelling, v, level, &mut standing).n;
             pairs.into_iter().map(call).collect::<Vec<_>>()
-        });
-        seen.extend(calls.unwrap().join().expect(name));
+        }));
     }
     assert!(seen.into_iter().eq([0, 51, 52]));
 }

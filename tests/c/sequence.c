@@ -1,6 +1,6 @@
-/* Runs the C library: document 01's starred cases of the check, of the expression's chart and of the
- * removal, empty slices, the limits, and lent buffers of each length that matters. Prints what is wrong
- * and, last, the count of cases; exits with 1 where something is wrong. */
+/* Runs the C library: document 01's starred cases of the check, of the expression's chart, of the
+ * removal and of the follower, empty slices, the limits, and lent buffers of each length that matters.
+ * Prints what is wrong and, last, the count of cases; exits with 1 where something is wrong. */
 #define _DEFAULT_SOURCE
 #include "sequence.h"
 
@@ -238,7 +238,7 @@ static void empty_slices(void)
 {
     static const uint8_t no_transition[4] = {2, 1, 0, 0};
     uint8_t byte = 0xAB;
-    cases += 11;
+    cases += 17;
     expect_numbers("no file", seq_check(NULL, 0), numbers(2, 1, 0, 0));
     expect_numbers("a file of no bytes", seq_check(&byte, 0), numbers(2, 1, 0, 0));
     expect_numbers("no nodes, no output", seq_write_chart(NULL, 0, NULL, 0), numbers(10, 0, 0, 0));
@@ -251,6 +251,12 @@ static void empty_slices(void)
     expect_numbers("no transition", seq_remove(no_transition, 4, NULL, 0, 1, 1, NULL, 0), numbers(51, 1, 1, 0));
     expect_numbers("no transition, a standing byte", seq_remove(no_transition, 4, NULL, 0, 1, 1, &byte, 1),
                    numbers(50, 0, 0, 0));
+    expect_numbers("no chart to restart", seq_restart(NULL, 0, NULL, 0), numbers(20, 0, 0, 0));
+    expect_numbers("no chart for an event", seq_event(NULL, 0, NULL, 0, 1), numbers(20, 0, 0, 0));
+    expect_numbers("no state to restart", seq_restart(G_CHART, 20, NULL, 0), numbers(53, 0, 0, 0));
+    expect_numbers("no state for an event", seq_event(G_CHART, 20, NULL, 0, 1), numbers(53, 0, 0, 0));
+    expect_numbers("a state of no bytes, to restart", seq_restart(G_CHART, 20, &byte, 0), numbers(53, 0, 0, 0));
+    expect_numbers("a state of no bytes", seq_event(G_CHART, 20, &byte, 0, 1), numbers(53, 0, 0, 0));
     expect_bytes("lent to what refuses", &byte, (uint8_t[]){0xAB}, 1);
 }
 
@@ -595,6 +601,208 @@ static void all_loops_of_the_full_chart(void)
     expect_remove("last byte 2", &lent, 1, 1, numbers(50, 0, 0, 0), NULL);
 }
 
+/* The follower. */
+
+typedef struct follower {
+    body chart;
+    body state;
+} follower;
+
+enum { RESTART = -1 };
+
+/* One call, a restart or the event of an action; its answer and every lent byte are held to what is
+ * wanted, and without `left` the state is to be kept. The next call goes on with what this one left. */
+static void expect_follow(const char *name, follower *lent, int event, seq_numbers want, const uint8_t *left)
+{
+    size_t chart_len = lent->chart.len;
+    size_t len = lent->state.len;
+    const uint8_t *chart = copy_before(file_end, lent->chart.bytes, chart_len);
+    uint8_t *state = copy_before(out_end, lent->state.bytes, len);
+    cases++;
+    expect_numbers(name,
+                   event == RESTART ? seq_restart(chart, chart_len, state, len)
+                                    : seq_event(chart, chart_len, state, len, (uint8_t)event),
+                   want);
+    expect_bytes(name, chart, lent->chart.bytes, chart_len);
+    expect_bytes(name, state, left ? left : lent->state.bytes, len);
+    memcpy(lent->state.bytes, state, len);
+}
+
+static seq_numbers taken(uint64_t end, uint64_t offered)
+{
+    return numbers(0, 1, end, offered);
+}
+
+static seq_numbers not_possible(uint64_t end, uint64_t offered)
+{
+    return numbers(0, 0, end, offered);
+}
+
+static const seq_numbers NO_SET = {53, 0, 0, 0};
+
+static void set_chart(follower *lent, const uint8_t *bytes, size_t len)
+{
+    set_body(&lent->chart, bytes, len);
+    lent->state.len = SEQ_STATE;
+}
+
+/* The set of the vertices from `low` to before `high`. */
+static void set_vertices(follower *lent, unsigned low, unsigned high)
+{
+    lent->state.len = SEQ_STATE;
+    memset(lent->state.bytes, 0, SEQ_STATE);
+    for (unsigned v = low; v < high; v++)
+        lent->state.bytes[v / 8] |= (uint8_t)(1u << v % 8);
+}
+
+/* Document 01's list, from a set of all bits, over a chart of G. */
+static void starred_run(const char *name, const uint8_t *chart, size_t len)
+{
+    static follower lent;
+    uint8_t start[SEQ_STATE] = {(uint8_t)(1u << chart[1])};
+    uint8_t end[SEQ_STATE] = {1};
+    set_chart(&lent, chart, len);
+    memset(lent.state.bytes, 0xFF, SEQ_STATE);
+    expect_follow(name, &lent, RESTART, taken(0, 2), start);
+    expect_follow(name, &lent, 1, taken(0, 2), start);
+    expect_follow(name, &lent, 2, taken(1, 0), end);
+    expect_follow(name, &lent, 1, not_possible(1, 0), NULL);
+    expect_follow(name, &lent, RESTART, taken(0, 2), start);
+}
+
+static void starred_runs(void)
+{
+    starred_run("G's chart", G + 20, 12);
+    starred_run("G's expression chart", G_CHART, sizeof G_CHART);
+}
+
+/* Vertex 1 goes on by action 1 or to vertex 2, which goes on or ends: all targets of all vertices, and
+ * an action that two of them offer counts once. */
+static void sets_of_several_vertices(void)
+{
+    static follower lent;
+    static const uint8_t chart[28] = {3, 1, 6, 0, 1, 1, 1, 0, 1, 1, 2, 0, 1, 2, 1, 0,
+                                      2, 1, 0, 0, 2, 1, 2, 0, 2, 3, 2, 0};
+    set_chart(&lent, chart, sizeof chart);
+    expect_follow("the start alone", &lent, RESTART, taken(0, 2), (uint8_t[SEQ_STATE]){2});
+    expect_follow("to vertices 1 and 2", &lent, 1, taken(0, 3), (uint8_t[SEQ_STATE]){6});
+    expect_follow("to the end and 1 and 2", &lent, 1, taken(1, 3), (uint8_t[SEQ_STATE]){7});
+    expect_follow("an action that none offers", &lent, 4, not_possible(1, 3), NULL);
+    expect_follow("an action of vertex 2 alone", &lent, 3, taken(0, 2), (uint8_t[SEQ_STATE]){4});
+    expect_follow("an action of vertex 1 alone", &lent, 2, not_possible(0, 2), NULL);
+    /* Vertex 2 deadlocks: nothing is offered, and it is not the end. */
+    set_chart(&lent, (uint8_t[]){3, 1, 1, 0, 1, 1, 2, 0}, 8);
+    expect_follow("a start", &lent, RESTART, taken(0, 1), (uint8_t[SEQ_STATE]){2});
+    expect_follow("to a deadlock", &lent, 1, taken(0, 0), (uint8_t[SEQ_STATE]){4});
+    expect_follow("at a deadlock", &lent, 1, not_possible(0, 0), NULL);
+    set_chart(&lent, (uint8_t[]){2, 1, 0, 0}, 4);
+    expect_follow("a start that deadlocks", &lent, RESTART, taken(0, 0), (uint8_t[SEQ_STATE]){2});
+    expect_follow("and an event", &lent, 1, not_possible(0, 0), NULL);
+}
+
+/* Of 1 to 255 vertex 1 has the actions that are no multiple of 7, and each leads to the vertex that is
+ * what is left of it by 128; vertex 127 has action 255 alone, to the end. */
+static void every_event(void)
+{
+    static follower lent;
+    uint64_t offered = 0;
+    for (unsigned action = 1; action < 256; action++)
+        offered += action % 7 != 0;
+    put_four(&lent.chart, 128, 1, (unsigned)offered + 1, 0);
+    for (unsigned action = 1; action < 256; action++)
+        if (action % 7 != 0)
+            put_four(&lent.chart, 1, action, action % 128, 0);
+    put_four(&lent.chart, 127, 255, 0, 0);
+    for (unsigned action = 0; action < 256; action++) {
+        unsigned to = action % 128;
+        uint8_t left[SEQ_STATE] = {0};
+        left[to / 8] = (uint8_t)(1u << to % 8);
+        lent.state.len = SEQ_STATE;
+        expect_follow("before each event", &lent, RESTART, taken(0, offered), (uint8_t[SEQ_STATE]){2});
+        if (action % 7 == 0)
+            expect_follow("an event of no transition", &lent, (int)action, not_possible(0, offered), NULL);
+        else
+            expect_follow("an event of a transition", &lent, (int)action,
+                          taken(to == 0, to == 1 ? offered : to == 127), left);
+    }
+}
+
+/* 53 for each of its causes, and 20 and 21 before it. */
+static void refused_events(void)
+{
+    static follower lent;
+    static const size_t other_lens[] = {0, 1, 15, 17, 32};
+    set_chart(&lent, G + 20, 12);
+    memset(lent.state.bytes, 0, 32);
+    lent.state.bytes[0] = 2;
+    for (size_t k = 0; k < 5; k++) {
+        lent.state.len = other_lens[k];
+        expect_follow("a state too long or too short", &lent, RESTART, NO_SET, NULL);
+        expect_follow("such, and an event", &lent, 1, NO_SET, NULL);
+    }
+    set_vertices(&lent, 0, 0);
+    for (int action = 0; action < 256; action++)
+        expect_follow("the empty set", &lent, action, NO_SET, NULL);
+    expect_follow("the empty set, restarted", &lent, RESTART, taken(0, 2), (uint8_t[SEQ_STATE]){2});
+    for (unsigned v = 2; v < 128; v++) {
+        set_vertices(&lent, v, v + 1);
+        expect_follow("a vertex of V or above", &lent, 1, NO_SET, NULL);
+        lent.state.bytes[0] |= 2;
+        expect_follow("such, and the start", &lent, 1, NO_SET, NULL);
+        expect_follow("such, and no action", &lent, 0, NO_SET, NULL);
+    }
+    expect_follow("such, restarted", &lent, RESTART, taken(0, 2), (uint8_t[SEQ_STATE]){2});
+    for (size_t k = 0; k < 3; k++) {
+        set_vertices(&lent, 0, (unsigned)k);
+        lent.state.len = k == 1 ? 15 : SEQ_STATE;
+        lent.chart.bytes[4 + 4 * 1 + 3] = 1;
+        expect_follow("transition 1 with a last byte", &lent, RESTART, numbers(21, 1, 0, 0), NULL);
+        expect_follow("such, and an event", &lent, 1, numbers(21, 1, 0, 0), NULL);
+        lent.chart.bytes[0] = 129;
+        expect_follow("V 129", &lent, RESTART, numbers(20, 0, 0, 0), NULL);
+        expect_follow("V 129, and an event", &lent, 1, numbers(20, 0, 0, 0), NULL);
+        set_body(&lent.chart, G + 20, 12);
+    }
+    for (lent.chart.len = 0; lent.chart.len < 12; lent.chart.len++) {
+        expect_follow("a beginning of the chart", &lent, RESTART, numbers(20, 0, 0, 0), NULL);
+        expect_follow("such, and an event", &lent, 2, numbers(20, 0, 0, 0), NULL);
+    }
+}
+
+/* V 128, T 8,192: the last bit of a state and the last transition are read. */
+static void following_the_full_chart(void)
+{
+    static follower lent;
+    static body labels;
+    uint8_t left[SEQ_STATE];
+    put_full_chart(&lent.chart, &labels);
+    lent.state.len = SEQ_STATE;
+    memset(left, 0, SEQ_STATE);
+    left[15] = 0x80;
+    expect_follow("start 127", &lent, RESTART, taken(0, 1), left);
+    expect_follow("no such action", &lent, 255, not_possible(0, 1), NULL);
+    memset(left, 0xFF, SEQ_STATE);
+    left[0] = 0xFE;
+    left[15] = 0x7F;
+    expect_follow("to all lower ones", &lent, 1, taken(0, 1), left);
+    left[15] = 0xFF;
+    expect_follow("from 1 to all", &lent, 1, taken(0, 1), left);
+    expect_follow("to all again", &lent, 1, taken(0, 1), left);
+    set_vertices(&lent, 0, 128);
+    expect_follow("all vertices, no such action", &lent, 2, not_possible(1, 1), NULL);
+    lent.chart.bytes[4 + 4 * 8191 + 1] = 2;
+    expect_follow("all vertices, the last transition", &lent, 0, not_possible(1, 2), NULL);
+    memset(left, 0, SEQ_STATE);
+    left[15] = 0x40;
+    expect_follow("by the last transition", &lent, 2, taken(0, 1), left);
+    lent.chart.bytes[0] = 127;
+    expect_follow("V 127, start 127", &lent, 1, numbers(20, 0, 0, 0), NULL);
+    lent.chart.bytes[0] = 128;
+    lent.chart.bytes[4 + 4 * 8191 + 3] = 1;
+    expect_follow("a last byte in the last transition", &lent, 1, numbers(21, 8191, 0, 0), NULL);
+    expect_follow("such, restarted", &lent, RESTART, numbers(21, 8191, 0, 0), NULL);
+}
+
 int main(void)
 {
     file_end = end_of_memory(sizeof file_bytes);
@@ -618,6 +826,11 @@ int main(void)
     numbers_that_name_no_loop();
     no_loop_charts();
     all_loops_of_the_full_chart();
+    starred_runs();
+    sets_of_several_vertices();
+    every_event();
+    refused_events();
+    following_the_full_chart();
     printf("C: %u cases, %u wrong\n", cases, wrong);
     return wrong == 0 ? 0 : 1;
 }

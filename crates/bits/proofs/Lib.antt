@@ -6,4 +6,5 @@ pub mod Packed
 pub mod Highest
 pub mod Members
 pub mod Gains
+pub mod Visits
 pub mod Determined

@@ -3,16 +3,13 @@ use mathlib.Core.Path.{_≡_}
 use mathlib.Core.Bool.{false}
 use mathlib.Core.List.{List}
 use Prim.Native.Nat.{ℕ, _/_, _%_, _^_, _≤_, _<_}
-use native.Mathlib.Nat.{pow-le-pow-right, one-le-pow, zero-div}
+use native.Mathlib.Nat.{pow-le-pow-right, zero-div}
 use native.Mathlib.Omega.{arith}
 use lib.ListN.{length, List·getD-eq-default}
 use Rattle.bits.specs.Bits.{hasBit}
 
 pub worth-high : (i : ℕ) → i < 8 → 2 ^ i ≤ 128
 worth-high i h = pow-le-pow-right {n = 2} (omega arith) {i = i} {j = 7} (omega arith)
-
-pub worth-low : (i : ℕ) → 1 ≤ 2 ^ i
-worth-low i = one-le-pow i 2 (omega arith)
 
 -- past the last byte nothing is in the set
 pub has-past : (s : List ℕ) (v : ℕ) → length s ≤ v / 8 → hasBit s v ≡ false

@@ -1,5 +1,5 @@
 -- The definitions. The meaning: Words, First, Packed, Sets, Tables, and of Bits Bytes and HighestByte. The tests that
--- run: hasBit in Bits, bitsBelow in Counts.
+-- run: hasBit, setBytes and listFrom in Bits, bitsBelow in Counts.
 pub mod Bits
 pub mod Words
 pub mod First

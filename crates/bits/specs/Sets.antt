@@ -1,8 +1,11 @@
 -- Sets of the numbers below 128.
-use Prim.Native.Nat.{ℕ, _+_, _%_, _^_, _<_}
+use Prim.Native.Nat.{ℕ, _+_, _/_, _%_, _^_, _<_}
+use mathlib.Core.Path.{_≡_}
+use mathlib.Core.List.{List}
 use mathlib.Core.Logic.{_⊎_, _↔_}
 use mathlib.Core.Bool.{cond}
 use lib.Dec.{ltb}
+use lib.ListN.{length, getD}
 use Rattle.bits.specs.declared.sets.Set.{Set}
 use Rattle.bits.specs.Words.{On}
 use Rattle.bits.specs.Counts.{bitsBelow}
@@ -48,3 +51,9 @@ SetFits s = (s .lo < 2 ^ 64) × (s .hi < 2 ^ 64)
 -- how many numbers the set has
 abbrev pub sizeOf : Set → ℕ
 sizeOf s = bitsBelow (s .lo) 64 + bitsBelow (s .hi) 64
+
+-- sixteen bytes that have the set's bits
+pub record BytesOf (s : Set) (r : List ℕ) : Type 0 where
+  pub long : length r ≡ 16
+  pub below : (k : ℕ) → getD r k 0 < 256
+  pub exactly : (w : ℕ) → w < 128 → On (getD r (w / 8) 0) (w % 8) ↔ Has s w

@@ -5,12 +5,13 @@ pub mod tables;
 pub use sets::Marked;
 pub use sets::Set;
 pub use sets::read_set;
+pub use sets::set_bytes;
 ghost use mathlib.Core.Path.{_≡_};
 ghost use mathlib.Core.Bool.{true};
 ghost use mathlib.Core.Logic.{_≢_, _⊎_, _↔_};
 ghost use Prim.Native.Nat.{ℕ, max, _+_, _*_, _≤_, _<_, _^_};
 ghost use lib.ListN.{length, getD};
-ghost use Rattle.bits.specs.Bits.{hasBit, HighestByte};
+ghost use Rattle.bits.specs.Bits.{HighestByte};
 ghost use Rattle.bits.specs.Words.{On, LowestOn, HighestOn, With, Without};
 ghost use Rattle.bits.specs.First.{First};
 ghost use Rattle.bits.specs.Counts.{bitsBelow};
@@ -85,15 +86,12 @@ pub fn value(i: usize) -> usize
     1 << i
 }
 
-// Whether v is in a set of bytes.
-pub fn has_bit(set: &[u8], v: usize) -> bool
-    ensures { λ r. ⌜ r ≡ hasBit (now (set .entry)) v ⌝ }
+// The byte with bit i too.
+pub fn with_value(byte: u8, i: usize) -> u8
+    requires { ⌜ i < 8 ⌝ }
+    ensures { λ r. ⌜ With byte i r ⌝ }
 {
-    let at = v / 8;
-    if at >= set.len() {
-        return false;
-    }
-    (byte(set, at) / value(v % 8)) % 2 == 1
+    byte | (value(i) as u8)
 }
 
 // The lowest bit of a word that is set.

@@ -8,6 +8,7 @@ use super::is_set;
 use super::lowest_bit;
 use super::read_u64;
 use super::with_bit;
+use super::with_value;
 ghost use mathlib.Core.Path.{_≡_};
 ghost use mathlib.Core.Bool.{true};
 ghost use mathlib.Core.Logic.{_≢_, _⊎_, _↔_};
@@ -15,7 +16,7 @@ ghost use Prim.Native.Nat.{ℕ, _+_, _/_, _%_, _≤_, _<_};
 ghost use lib.ListN.{length, getD};
 ghost use Rattle.bits.specs.First.{First};
 ghost use Rattle.bits.specs.Words.{On};
-ghost use Rattle.bits.specs.Sets.{Has, emptySet, Empty, Members, Union, Intersection, Difference, Last, sizeOf, halfOf};
+ghost use Rattle.bits.specs.Sets.{Has, emptySet, Empty, Members, Union, Intersection, Difference, Last, sizeOf, halfOf, BytesOf};
 
 // A set of the numbers below 128: bit k of `lo` for k, bit k of `hi` for 64 + k.
 pub struct Set {
@@ -177,4 +178,19 @@ pub fn read_set(s: &[u8], at: usize) -> Set
         lo: read_u64(s, at),
         hi: read_u64(s, at + 8),
     }
+}
+
+// The set as sixteen bytes.
+pub fn set_bytes(set: Set) -> [u8; 16]
+    ensures { λ r. ⌜ BytesOf set r ⌝ }
+{
+    let mut bytes = [0u8; 16];
+    let mut left = set;
+    while !left.is_empty() {
+        let v = left.lowest();
+        let at = v / 8;
+        bytes[at] = with_value(bytes[at], v % 8);
+        left = left.without(v);
+    }
+    bytes
 }

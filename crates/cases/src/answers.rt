@@ -54,13 +54,41 @@ pub(crate) fn write_verdict(text: &mut [u8], numbers: Numbers) -> usize
     append_value(text, at, numbers.r)
 }
 
-pub(crate) fn write_removed(text: &mut [u8], numbers: Numbers) -> usize
+// A word for what was done, with its length where it has one.
+pub(crate) fn write_done(text: &mut [u8], word: &[u8], numbers: Numbers) -> usize
     ensures { λ r. ⌜ Counts r (now (text .exit)) ⌝ }
 {
-    if numbers.n == 0 {
-        return append(text, 0, b" done");
+    if numbers.n > 0 {
+        return write_verdict(text, numbers);
     }
-    write_verdict(text, numbers)
+    let at = append(text, 0, word);
+    if numbers.p == 0 {
+        return at;
+    }
+    append_value(text, at, numbers.p)
+}
+
+// One of two words.
+fn append_either(text: &mut [u8], at: usize, flag: u64, one: &[u8], other: &[u8]) -> usize
+    requires { ⌜ Counts at (now text) ⌝ }
+    ensures { λ r. ⌜ Counts r (now (text .exit)) ⌝ }
+{
+    if flag == 1 {
+        return append(text, at, one);
+    }
+    append(text, at, other)
+}
+
+// In document 01's words.
+pub(crate) fn write_followed(text: &mut [u8], numbers: Numbers) -> usize
+    ensures { λ r. ⌜ Counts r (now (text .exit)) ⌝ }
+{
+    if numbers.n > 0 {
+        return write_verdict(text, numbers);
+    }
+    let at = append_either(text, 0, numbers.p, b" taken", b" not possible");
+    let at = append_either(text, at, numbers.q, b" yes", b" no");
+    append_value(text, at, numbers.r)
 }
 
 fn glyph(digit: u8) -> u8

@@ -20,7 +20,8 @@ use crate::words::place;
 // else a line does before a call, a remark and a line without words, and the calls.
 pub(crate) fn word_of(line: &[u8]) -> usize {
     place(
-        b"nodes chart labels relation file more repeat at row cut keep case standing #  check leaving take left ",
+        b"nodes chart labels relation file more repeat at row cut keep case standing state #  \
+        check leaving take left write restart event by ",
         part(line, 0, find(line, 0, b' ')),
     )
 }
@@ -39,13 +40,21 @@ pub(crate) const CASE: usize = 11;
 
 pub(crate) const STANDING: usize = 12;
 
-pub(crate) const CHECK: usize = 15;
+pub(crate) const STATE: usize = 13;
 
-pub(crate) const LEAVING: usize = 16;
+pub(crate) const CHECK: usize = 16;
 
-pub(crate) const TAKE: usize = 17;
+pub(crate) const LEAVING: usize = 17;
 
-pub(crate) const LEFT: usize = 18;
+pub(crate) const TAKE: usize = 18;
+
+pub(crate) const LEFT: usize = 19;
+
+pub(crate) const WRITE: usize = 20;
+
+pub(crate) const RESTART: usize = 21;
+
+pub(crate) const BY: usize = 23;
 
 // The offset at which a line's bytes begin: a record's name replaces all that there is.
 fn offset(word: usize, size: usize, n: usize) -> usize

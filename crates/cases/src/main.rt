@@ -13,21 +13,29 @@ ghost use Rattle.io.specs.Counts.{Counts};
 use answers::append;
 use answers::at_most;
 use answers::write_bytes;
-use answers::write_removed;
+use answers::write_done;
+use answers::write_followed;
 use answers::write_verdict;
+use follower::Follower;
+use follower::Moved;
 use libc::STDIN_FILENO;
 use libc::STDOUT_FILENO;
+use lines::BY;
 use lines::CASE;
 use lines::CHECK;
 use lines::LEAVING;
 use lines::LEFT;
+use lines::RESTART;
 use lines::STANDING;
+use lines::STATE;
 use lines::TAKE;
+use lines::WRITE;
 use lines::prepare;
 use lines::word_of;
 use records::CHART;
 use records::FILE;
 use records::LABELS;
+use records::NODES;
 use records::body;
 use records::join;
 use records::least;
@@ -40,13 +48,13 @@ use words::number;
 use words::part;
 use words::same;
 
-// The part that lines write to; where the case's name stands in the table; how many standing bytes there are; how many
-// calls were run, and how many answered as expected.
+// The part that lines write to; where the case's name stands in the table; how many bytes are lent to the calls that
+// change some, the standing bytes or a follower's state; how many calls were run, and how many answered as expected.
 struct State {
     part: usize,
     name: usize,
     name_end: usize,
-    standing: usize,
+    lent: usize,
     run: u64,
     passed: u64,
 }
@@ -60,7 +68,7 @@ fn counted(state: State, as_expected: bool) -> State {
         part: state.part,
         name: state.name,
         name_end: state.name_end,
-        standing: state.standing,
+        lent: state.lent,
         run: wrapping_add_u64(state.run, 1),
         passed,
     }
@@ -107,8 +115,60 @@ fn taken(bytes: &[u8], line: &[u8], standing: &mut [u8]) -> Numbers {
     report::removed_numbers(removed)
 }
 
+// The action of an event's line.
+fn action(line: &[u8]) -> u8 {
+    (number(after(line, 1)) % 256) as u8
+}
+
+// A state that is handed over, and lent on to the functions that update it where it stands.
+fn moved_by_value(chart: &[u8], set: [u8; 16], line: &[u8]) -> Moved {
+    if word_of(line) == RESTART {
+        let fresh = follower::restart(chart);
+        let state = fresh.follower;
+        return follower::restart_through(chart, state);
+    }
+    follower::event_through(chart, Follower { set }, action(line))
+}
+
+// The set is that of the lent state, which becomes what is handed back.
+fn followed_by_value(chart: &[u8], state: &mut [u8], line: &[u8]) -> Numbers {
+    let mut set = [0u8; 16];
+    append(&mut set, 0, state);
+    let moved = moved_by_value(chart, set, line);
+    let follower = moved.follower;
+    let handed_back = follower.set;
+    append(state, 0, &handed_back);
+    let answer = moved.answer;
+    report::followed_numbers(answer)
+}
+
+// The follower's answer to a line, which by value has two words before those of the call.
+fn followed(chart: &[u8], state: &mut [u8], word: usize, line: &[u8]) -> Numbers {
+    if word == BY {
+        return followed_by_value(chart, state, after(line, 2));
+    }
+    if word == RESTART {
+        return report::followed_numbers(follower::restart_lent(chart, state));
+    }
+    report::followed_numbers(follower::event_lent(chart, state, action(line)))
+}
+
+// Writes the expression's chart to as many bytes of some room as a line says; where it is written, it becomes the chart.
+fn written(bytes: &mut [u8], room: &mut [u8], line: &[u8]) -> Numbers {
+    let lent = at_most(room, number(after(line, 1)));
+    let nodes = body(bytes, NODES);
+    let numbers = report::written_numbers(expression::write_chart(nodes, &mut room[..lent]));
+    if numbers.n == 0 {
+        let mut text = io::buffer();
+        let length = at_most(room, numbers.p as usize);
+        let end = write_bytes(&mut text, &room[..length]);
+        prepare(bytes, CHART, CHART, &text[..end]);
+    }
+    numbers
+}
+
 // The answer to a call, as text.
-fn answer(bytes: &[u8], standing: &mut [u8], word: usize, line: &[u8], text: &mut [u8]) -> usize
+fn answer(bytes: &mut [u8], lent: &mut [u8], word: usize, line: &[u8], text: &mut [u8]) -> usize
     ensures { λ r. ⌜ Counts r (now (text .exit)) ⌝ }
 {
     if word == CHECK {
@@ -119,10 +179,17 @@ fn answer(bytes: &[u8], standing: &mut [u8], word: usize, line: &[u8], text: &mu
         return write_bytes(text, chart::leaving(body(bytes, CHART), vertex));
     }
     if word == TAKE {
-        return write_removed(text, taken(bytes, line, standing));
+        return write_done(text, b" done", taken(bytes, line, lent));
     }
     if word == LEFT {
-        return write_bytes(text, standing);
+        return write_bytes(text, lent);
+    }
+    if word == WRITE {
+        let numbers = written(bytes, text, line);
+        return write_done(text, b" written", numbers);
+    }
+    if word <= BY {
+        return write_followed(text, followed(body(bytes, CHART), lent, word, line));
     }
     append(text, 0, b" not understood")
 }
@@ -131,14 +198,14 @@ fn call(
     table: &[u8],
     state: State,
     bytes: &mut [u8],
-    standing: &mut [u8],
+    lent: &mut [u8],
     word: usize,
     line: &[u8],
 ) -> State {
     join(bytes, state.part);
     let mut text = io::buffer();
-    let count = at_most(standing, state.standing);
-    let length = answer(bytes, &mut standing[..count], word, line, &mut text);
+    let count = at_most(lent, state.lent);
+    let length = answer(bytes, &mut lent[..count], word, line, &mut text);
     let name = after(part(table, state.name, state.name_end), 1);
     counted(state, judge(name, line, &text[..length]))
 }
@@ -156,10 +223,10 @@ fn moved(state: State, word: usize, from: usize, to: usize) -> State {
     next
 }
 
-// A line of standing bytes.
-fn stands(state: State, standing: &mut [u8], line: &[u8]) -> State {
+// A line of bytes to lend.
+fn lend(state: State, lent: &mut [u8], line: &[u8]) -> State {
     let mut next = state;
-    next.standing = write(standing, 0, after(line, 1));
+    next.lent = write(lent, 0, after(line, 1));
     next
 }
 
@@ -168,34 +235,34 @@ fn obey(
     from: usize,
     to: usize,
     bytes: &mut [u8],
-    standing: &mut [u8],
+    lent: &mut [u8],
     state: State,
 ) -> State {
     let line = part(table, from, to);
     let word = word_of(line);
     if word >= CHECK {
-        return call(table, state, bytes, standing, word, line);
+        return call(table, state, bytes, lent, word, line);
     }
-    if word == STANDING {
-        return stands(state, standing, line);
+    if (word == STANDING) | (word == STATE) {
+        return lend(state, lent, line);
     }
     prepare(bytes, state.part, word, line);
     moved(state, word, from, to)
 }
 
-fn run(table: &[u8], bytes: &mut [u8], standing: &mut [u8]) -> State {
+fn run(table: &[u8], bytes: &mut [u8], lent: &mut [u8]) -> State {
     let mut state = State {
         part: 0,
         name: 0,
         name_end: 0,
-        standing: 0,
+        lent: 0,
         run: 0,
         passed: 0,
     };
     let mut at: usize = 0;
     while at < table.len() {
         let end = find(table, at, b'\n');
-        state = obey(table, at, end, bytes, standing, state);
+        state = obey(table, at, end, bytes, lent, state);
         at = end + 1;
     }
     state
@@ -212,8 +279,8 @@ fn main() {
     let mut table = io::large_buffer();
     let length = io::read_full(STDIN_FILENO, &mut table);
     let mut bytes = space();
-    let mut standing = io::buffer();
-    let state = run(&table[..length], &mut bytes, &mut standing);
+    let mut lent = io::buffer();
+    let state = run(&table[..length], &mut bytes, &mut lent);
     io::print_decimal(STDOUT_FILENO, state.passed);
     say(b" of ");
     io::print_decimal(STDOUT_FILENO, state.run);

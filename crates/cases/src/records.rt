@@ -5,6 +5,8 @@ use crate::words::digit;
 use crate::words::part;
 use std::num::wrapping_add_u8;
 
+pub(crate) const NODES: usize = 0;
+
 pub(crate) const CHART: usize = 1;
 
 pub(crate) const LABELS: usize = 2;

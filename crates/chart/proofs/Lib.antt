@@ -6,5 +6,6 @@ pub mod Order
 pub mod Parts
 pub mod Searches
 pub mod Rows
+pub mod Targets
 pub mod Relations
 pub mod Standing

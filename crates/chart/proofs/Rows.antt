@@ -23,11 +23,12 @@ abbrev pub ViaBelow : List ℕ → (ℕ → Type 0) → ℕ → ℕ → ℕ → 
 ViaBelow body P u i w = (e : Via body P u w) × (e .at < i)
 
 module _ {body : List ℕ} {P : ℕ → Type 0} {u : ℕ} where
-  -- none is before the first transition of u
+  -- none is before transition i
+  pub via-nothing : {i : ℕ} {s : Set} → ((k : ℕ) → k < i → fromOf body k ≡ u → ¬ P k) → s ≡ emptySet → Members (ViaBelow body P u i) s
+  via-nothing f e = record { exactly = λ w h. ((λ g. absurd (none w (rw e at g))), (λ (k, l). absurd (f (k .at) l (k .leaves) (k .holds)))) }
+
   pub via-none : {i : ℕ} {s : Set} → Split (FromBelow body u) (countOf body) i → s ≡ emptySet → Members (ViaBelow body P u i) s
-  via-none S e = record {
-    exactly = λ w h. ((λ g. absurd (none w (rw e at g))), (λ (k, l). absurd (omega (arith, S .below (k .at) l .is, k .leaves))));
-  }
+  via-none S = via-nothing (λ k l e p. omega (arith, S .below k l .is, e))
 
   -- transition i of u comes in where it has the property
   pub via-more : {i t : ℕ} {flag : Bool} {s r : Set} → i < countOf body → fromOf body i ≡ u → toOf body i ≡ t → Decides flag (P i)
@@ -45,15 +46,17 @@ module _ {body : List ℕ} {P : ℕ → Type 0} {u : ℕ} where
           (λ z. inr (D .1 (subst P z (m .holds)), sym (m .enters) ∙ subst (λ (j : ℕ). toOf body j ≡ t) (sym z) k))
           (λ z. inl (M .exactly w l .1 (m, omega arith))))
 
-  -- all are before the first transition of the next vertex
-  pub via-all : {i end : ℕ} {s : Set} → Split (FromBelow body (u + 1)) (countOf body) end → end ≤ i → Members (ViaBelow body P u i) s
+  -- none is from transition i on
+  pub via-rest : {i : ℕ} {s : Set} → ((k : ℕ) → i ≤ k → k < countOf body → fromOf body k ≡ u → ¬ P k) → Members (ViaBelow body P u i) s
       → Members (Via body P u) s
-  via-all {i} S l M = record { exactly = λ w h. ((λ g. M .exactly w h .0 g .0), (λ k. M .exactly w h .1 (k, before k))) }
+  via-rest {i} f M = record { exactly = λ w h. ((λ g. M .exactly w h .0 g .0), (λ k. M .exactly w h .1 (k, before k))) }
     where
       before : {w : ℕ} (k : Via body P u w) → k .at < i
-      before k = by-cases (decLt (k .at) i)
-          (λ g. g)
-          (λ g. absurd (S .above (k .at) (omega (arith, g, l)) (k .within) (record { is = omega (arith, k .leaves) })))
+      before k = by-cases (decLt (k .at) i) (λ g. g) (λ g. absurd (f (k .at) (omega arith) (k .within) (k .leaves) (k .holds)))
+
+  pub via-all : {i end : ℕ} {s : Set} → Split (FromBelow body (u + 1)) (countOf body) end → end ≤ i → Members (ViaBelow body P u i) s
+      → Members (Via body P u) s
+  via-all S l = via-rest (λ k g h e p. S .above k (omega (arith, g, l)) h (record { is = omega (arith, e) }))
 
 -- the properties, tested by bytes that are read
 pub decides-at : {bytes : List ℕ} {i b : ℕ} (x : ℕ) → b ≡ getD bytes i 0 → Decides (eqb b x) (At bytes x i)

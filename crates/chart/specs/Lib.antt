@@ -1,5 +1,5 @@
--- The definitions. The meaning: Bodies, Steps, Standing, Sets (what a search reaches), Numbered. The tests that run:
--- Checks and Leaving. Codes only serves the proof of `check`.
+-- The definitions. The meaning: Bodies, Steps, Standing, Sets (what a search reaches), Images, Numbered. The tests
+-- that run: Checks and Leaving. Codes only serves the proof of `check`.
 pub mod Bodies
 pub mod Checks
 pub mod Leaving
@@ -7,4 +7,5 @@ pub mod Codes
 pub mod Steps
 pub mod Standing
 pub mod Sets
+pub mod Images
 pub mod Numbered

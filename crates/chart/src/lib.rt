@@ -1,4 +1,5 @@
 // Chart bodies (document 01, kind 2): a header of four bytes (V, start, two of T) and T transitions of four bytes.
+pub mod images;
 pub mod sets;
 
 ghost use mathlib.Core.Path.{_≡_};

@@ -1,8 +1,8 @@
--- Demand 3, of removals, proved.
-use mathlib.Core.Path.{_≡_, refl, _∙_}
+-- Demand 3, proved.
+use mathlib.Core.Path.{_≡_, refl, sym, ap, _∙_}
 use mathlib.Core.Logic.{_≢_, inl, ⊎-elim, by-cases}
 use mathlib.Core.List.{List, [], _∷_, map, map-map}
-use Prim.Native.Nat.{ℕ, zero, suc, _<_}
+use Prim.Native.Nat.{ℕ, zero, suc, _-_, _<_}
 use native.Mathlib.Decide.{ℕ-discrete}
 use native.Mathlib.Omega.{arith}
 use lib.ListN.{length, getD, length-replicate, getD-replicate, length-map}
@@ -10,12 +10,24 @@ use borrow.Author.Tests.{eq-eqb, ne-eqb}
 use Rattle.theory.specs.Charts.{Loop}
 use Rattle.theory.specs.Standing.{Loops, DecidedLoops}
 use Rattle.theory.specs.Orders.{Pair, Order}
+use Rattle.theory.specs.Systems.{Bisimulation}
+use Rattle.theory.specs.Nodes.{Means}
+use Rattle.theory.specs.Rules.{rules}
+use Rattle.theory.specs.Followers.{Answers}
+use Rattle.theory.specs.Events as events
+use Rattle.theory.specs.Runs.{runFresh, ruleMachine}
 use Rattle.theory.proofs.Checks.{passed-iff-witness}
 use Rattle.theory.proofs.Removals.{plain-done}
 use Rattle.theory.proofs.RemovalTests.{all-decided, left-decided, plain-call, plain-answers}
 use Rattle.theory.proofs.Orders.{order-plain, order-exists, no-endless}
+use Rattle.theory.proofs.Rules.{chart-rules}
+use Rattle.theory.proofs.Followers.{fresh-agree, one-answers}
+use Rattle.theory.proofs.Runs.{chart-answers, rules-answers}
+use Rattle.report.specs.declared.Followed.{Followed}
+use Rattle.report.specs.declared.Stage.the-variants as stage
 use Rattle.report.specs.declared.Verdict.the-variants.{Accepted}
 use Rattle.bits.specs.Bits.{Bytes}
+use Rattle.chart.specs.Bodies as chart
 use Rattle.chart.specs.Bodies.{startOf, countOf}
 use Rattle.chart.specs.Steps.{StepsOf}
 use Rattle.chart.specs.Standing.{StandsFor}
@@ -23,12 +35,22 @@ use Rattle.chart.proofs.Checks.{well-formed}
 use Rattle.chart.proofs.Relations.{steps-formed}
 use Rattle.chart.proofs.Standing.{stands-agree, all-stand, one-standing}
 use Rattle.witness.proofs.Labellings.{labelled-iff-witness}
+use Rattle.expression.specs.Table as nodes
+use Rattle.expression.specs.Body.{chartOf}
+use Rattle.expression.proofs.Table.{passed→well-formed, tree}
+use Rattle.expression.proofs.Chart.{body-start, body-transitions, body-passes}
+use Rattle.bisimulation.specs.Answers.{Related}
+use Rattle.bisimulation.proofs.Relations.{relation-iff-bisimulation}
 use Rattle.elimination.specs.Removals.{removedAs}
 use Rattle.elimination.proofs.Lists.{Passing, formed, listed, call-answers, call-stands, calls-agree}
-use Rattle.verdict.specs.Verdicts.{chartIn, labelsIn, verdictOf}
+use Rattle.follower.specs.States.{machineOf, followedAs, restartOf, restartFrom, restartLent}
+use Rattle.follower.specs.Lists.{ByRule}
+use Rattle.follower.proofs.Lists.{by-value-follows, in-place-follows, lent-follows, fresh-by-value, fresh-in-place, fresh-lent}
+use Rattle.verdict.specs.Verdicts.{nodesIn, chartIn, labelsIn, relationIn, verdictOf}
 use Rattle.verdict.proofs.Verdicts.{accepted-iff}
-use Rattle.promises.specs.Demand1.{stepsIn}
-use Rattle.promises.specs.Demand3.{allStanding, EachRemoval, ended, call, AgainstPlainSet, OrderExists, branchByte, RunsThrough}
+use Rattle.promises.specs.Demand1.{stepsIn, expressionIn}
+use Rattle.promises.specs.Demand2.{chartSystem}
+use Rattle.promises.specs.Demand3.{allStanding, EachRemoval, ended, call, AgainstPlainSet, OrderExists, branchByte, RunsThrough, FollowerGives, rootIn, OneList, Demand3}
 use Rattle.promises.proofs.Accepted.{part-bytes}
 
 -- BRANCH BYTES, which stand for no loop
@@ -86,6 +108,19 @@ module _ {b labels : List ℕ} (c : Passing b labels) where
         no-endless = no-endless (formed c) (c .passed) (stands-agree s) none;
       }
 
+-- THE FOLLOWER OVER A BODY THAT PASSES, where the rule has but one list of answers over its chart
+gives : {b : List ℕ} {cs : List events.Call} {xs : List events.Answer} → chart.WellFormed b
+    → ((zs : List events.Answer) → Answers events.eventRule (chartSystem b) tt cs zs → zs ≡ xs)
+    → FollowerGives b cs (map followedAs xs)
+gives {b} {cs} {xs} W one = record {
+  by-value = told (by-value-follows W (restartOf b .follower) (fresh-by-value W) cs);
+  in-place = λ f. told (in-place-follows W (restartFrom b f .follower) (fresh-in-place W f) cs);
+  lent = λ s h. told (lent-follows W (restartLent b s .follower .set) (fresh-lent W s h) cs);
+}
+  where
+    told : {ys : List Followed} → ByRule b cs ys → ys ≡ map followedAs xs
+    told R = R .written ∙ ap (map followedAs) (one (R .answers) (R .rule))
+
 -- OF ANY ACCEPTED FILE
 module _ (f : List ℕ) (bytes : Bytes f) {v t l : ℕ} (accepted : verdictOf f ≡ Accepted v t l) where
   passing : Passing (chartIn f) (labelsIn f)
@@ -114,3 +149,52 @@ module _ (f : List ℕ) (bytes : Bytes f) {v t l : ℕ} (accepted : verdictOf f 
   -- every such order runs with no refusal, leaves exactly the branches, and no endless path from any vertex
   pub orders-run-through : (xs : List Pair) → Order (stepsIn f) xs → RunsThrough (chartIn f) (labelsIn f) xs
   orders-run-through = runs-through passing
+
+  -- THE TWO CHARTS AND THE RULES, two by two bisimilar
+  nodes-pass : nodes.checkOf (nodesIn f) ≡ stage.Passed
+  nodes-pass = let (r, n, c, p, q, v′, t′) = accepted-iff f v t l .0 accepted in n
+
+  charts-match : Bisimulation (chartSystem (expressionIn f)) (chartSystem (chartIn f)) (Related (relationIn f))
+  charts-match =
+      let (r, n, c, p, q, v′, t′) = accepted-iff f v t l .0 accepted in
+      relation-iff-bisimulation (expressionIn f) (chartIn f) (relationIn f) .0 q .2
+
+  rules-match : Bisimulation (chartSystem (expressionIn f)) (rules (rootIn f)) (Means (nodes.node (nodesIn f)) (nodes.count (nodesIn f)))
+  unfolding chartOf
+  rules-match =
+      let w = passed→well-formed (nodesIn f) nodes-pass in
+      let some = w .sized .some in
+      rw (body-start (nodesIn f), body-transitions (nodesIn f))
+      (chart-rules (nodes.node (nodesIn f)) (nodes.count (nodesIn f)) (tree (nodesIn f) w) (nodes.count (nodesIn f) - 1) (omega arith))
+
+  -- for every list of events and restarts they answer one list
+  pub followers-answer : (calls : List events.Call) → OneList (chartIn f) (expressionIn f) (rootIn f) calls
+  followers-answer cs = record {
+    answers = xs;
+    rules-give = given;
+    no-others = λ zs a. one-answers events.eventRule (rules (rootIn f)) a given;
+    panel-gives = gives (passing .body)
+        (λ zs a. sym (fresh-agree charts-match events.eventRule written a) ∙ fresh-agree rules-match events.eventRule written given);
+    expression-gives = gives (well-formed (expressionIn f) (body-passes (nodesIn f) (part-bytes f 0 bytes) nodes-pass))
+        (λ zs a. fresh-agree rules-match events.eventRule a given);
+    rules-run = refl;
+  }
+    where
+      xs : List events.Answer
+      xs = runFresh events.eventRule (ruleMachine (rootIn f)) tt cs
+
+      given : Answers events.eventRule (rules (rootIn f)) tt cs xs
+      given = rules-answers (rootIn f) events.eventRule tt cs
+
+      written : Answers events.eventRule (chartSystem (expressionIn f)) tt cs (runFresh events.eventRule (machineOf (expressionIn f)) tt cs)
+      written = chart-answers _ _ events.eventRule tt cs
+
+  -- DEMAND 3
+  pub demand-3 : Demand3 f
+  demand-3 = record {
+    removals = each-removal;
+    plain-set = against-plain-set;
+    order = an-order-exists;
+    orders-run = orders-run-through;
+    followers = followers-answer;
+  }

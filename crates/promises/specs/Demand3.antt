@@ -1,23 +1,36 @@
--- Demand 3, of removals: "Take the chart and labels of any accepted file, all steps standing." Here b is the chart and
--- `labels` the labelling; a list of calls gives each a pair (v, level), whatever it is, and the standing bytes that the
--- call before left.
+-- Demand 3: `Demand3` below, of any accepted file. First the removals: "Take the chart and labels of any accepted file,
+-- all steps standing." Here b is the chart and `labels` the labelling; a list of calls gives each a pair (v, level),
+-- whatever it is, and the standing bytes that the call before left. Then the followers.
 use mathlib.Core.Path.{_≡_}
 use mathlib.Core.Logic.{_↔_}
 use mathlib.Core.Bool.{cond}
 use mathlib.Core.List.{List, [], _∷_, map}
-use Prim.Native.Nat.{ℕ}
+use Prim.Native.Nat.{ℕ, _-_}
 use lib.Dec.{eqb}
-use lib.ListN.{replicate}
+use lib.ListN.{length, replicate}
 use Rattle.theory.specs.Paths.{Endless}
 use Rattle.theory.specs.Charts.{Any, Loop}
 use Rattle.theory.specs.Standing.{Loops, Inside}
 use Rattle.theory.specs.Orders.{Pair, Order}
 use Rattle.theory.specs.Removals.{Answer, done, left-loops, PlainAll}
+use Rattle.theory.specs.Expressions.{Expr}
+use Rattle.theory.specs.Nodes.{expr}
+use Rattle.theory.specs.Rules.{rules}
+use Rattle.theory.specs.Followers.{Answers}
+use Rattle.theory.specs.Events as events
+use Rattle.theory.specs.Runs.{run, runFresh, ruleMachine}
+use Rattle.report.specs.declared.Followed.{Followed}
 use Rattle.report.specs.declared.Removed.the-variants.{Done}
 use Rattle.chart.specs.Bodies.{countOf}
 use Rattle.chart.specs.Steps.{StepsOf, StandingOf}
 use Rattle.chart.specs.Standing.{StandsFor}
+use Rattle.expression.specs.Table as nodes
 use Rattle.elimination.specs.Removals.{removedAs, removalOf, leftOf, answersOf, leftAfter}
+use Rattle.follower.specs.declared.Follower.{Follower}
+use Rattle.follower.specs.States.{followedAs, restartOf, restartFrom, restartLent}
+use Rattle.follower.specs.Lists.{byValue, inPlace, lent}
+use Rattle.verdict.specs.Verdicts.{nodesIn, chartIn, labelsIn}
+use Rattle.promises.specs.Demand1.{stepsIn, expressionIn}
 
 -- all steps stand: every byte is 1
 abbrev pub allStanding : List ℕ → List ℕ
@@ -63,3 +76,44 @@ pub record RunsThrough (b labels : List ℕ) (xs : List Pair) : Type 0 where
   pub no-refusal : answersOf b labels xs (allStanding b) ≡ map (λ x. Done) xs
   pub branches : leftAfter b labels xs (allStanding b) ≡ map branchByte labels
   pub no-endless : (v : ℕ) → ¬ Endless (Any (StandingOf b labels (leftAfter b labels xs (allStanding b)))) v
+
+-- THE FOLLOWERS. A list of events and restarts begins at a fresh start, which is what a restart hands back or leaves;
+-- each call gets the state that the one before handed back or left. The follower over the chart body b answers ys:
+pub record FollowerGives (b : List ℕ) (cs : List events.Call) (ys : List Followed) : Type 0 where
+  -- by value
+  pub by-value : run (byValue b) cs (restartOf b .follower) ≡ ys
+  -- in a state that is lent itself, whatever it was before
+  pub in-place : (f : Follower) → run (inPlace b) cs (restartFrom b f .follower) ≡ ys
+  -- in sixteen lent bytes, whatever they were before
+  pub lent : (s : List ℕ) → length s ≡ 16 → run (lent b) cs (restartLent b s .follower .set) ≡ ys
+
+-- the root's expression
+abbrev pub rootIn : List ℕ → Expr
+rootIn f = expr (nodes.node (nodesIn f)) (nodes.count (nodesIn f) - 1)
+
+-- "And for every list of events and restarts, those not possible or refused included, from a fresh start, the follower
+-- over the panel's chart and the one over the expression's chart give the same answers, and these are the ones that the
+-- published rules give." The rules' follower has expressions and the end as members, and begins at the expression e
+-- alone: its answers exist, and are no others
+pub record OneList (panel expression : List ℕ) (e : Expr) (cs : List events.Call) : Type 1 where
+  pub answers : List events.Answer
+  pub rules-give : Answers events.eventRule (rules e) tt cs answers
+  pub no-others : (xs : List events.Answer) → Answers events.eventRule (rules e) tt cs xs → xs ≡ answers
+  pub panel-gives : FollowerGives panel cs (map followedAs answers)
+  pub expression-gives : FollowerGives expression cs (map followedAs answers)
+  -- the rules' follower as it runs
+  pub rules-run : runFresh events.eventRule (ruleMachine e) tt cs ≡ answers
+
+-- DEMAND 3, of a file f that is accepted
+pub record Demand3 (f : List ℕ) : Type 1 where
+  -- each removal of every list is done exactly when it should be, and what stands before each and after the list
+  pub removals : (calls : List Pair)
+      → EachRemoval (chartIn f) (labelsIn f) (allStanding (chartIn f)) (Loop (stepsIn f)) calls
+  -- each answer of every list of removals, places included, is the plain set's
+  pub plain-set : (calls : List Pair) → AgainstPlainSet (chartIn f) (labelsIn f) calls
+  -- an order of all loops exists
+  pub order : OrderExists (chartIn f) (labelsIn f)
+  -- every such order runs with no refusal, leaves exactly the branch steps, and no endless path
+  pub orders-run : (xs : List Pair) → Order (stepsIn f) xs → RunsThrough (chartIn f) (labelsIn f) xs
+  -- for every list of events and restarts, the two charts' followers and the published rules' answer one list
+  pub followers : (calls : List events.Call) → OneList (chartIn f) (expressionIn f) (rootIn f) calls

@@ -2,12 +2,12 @@
 -- nothing.
 use mathlib.Core.Path.{_≡_, refl, sym, _∙_, ap}
 use mathlib.Core.Logic.{_≢_, _⊎_, inl, inr, ⊎-elim}
-use mathlib.Core.Bool.{cond}
+use mathlib.Core.Bool.{Bool, true, false, cond}
 use Prim.Native.Nat.{ℕ, _+_, _<_}
 use native.Mathlib.Omega.{arith}
 use lib.Dec.{eqb}
 use borrow.Author.Tests.{ne-eqb}
-use Rattle.report.specs.Numbers.{placeNumbers, verdictNumbers, writtenNumbers, removedNumbers}
+use Rattle.report.specs.Numbers.{placeNumbers, verdictNumbers, writtenNumbers, removedNumbers, flag, followedNumbers}
 use Rattle.report.specs.declared.Numbers.{Numbers}
 use Rattle.report.specs.declared.Place.{Place}
 use Rattle.report.specs.declared.Place.the-variants.{File, Record, RecordKind, FileOffset, NodesLength, Node, NodeUses, ChartHeader, Transition, LabelsLength, Unreached, BranchCycle, LoopNoReturn, LoopEndInside, LoopNotLower, RelationLength, PairNoVertex, PairStarts, PairEnds, PairExpressionStep, PairChartStep, OutputLength}
@@ -17,6 +17,8 @@ use Rattle.report.specs.declared.Written.{Written}
 use Rattle.report.specs.declared.Written.the-variants as written
 use Rattle.report.specs.declared.Removed.{Removed}
 use Rattle.report.specs.declared.Removed.the-variants as removed
+use Rattle.report.specs.declared.Followed.{Followed}
+use Rattle.report.specs.declared.Followed.the-variants as followed
 
 -- the refusal that has these numbers
 placeAt : Numbers → Place
@@ -148,3 +150,27 @@ removed-at (removed.NotLoop v l r) = refl
 
 pub one-removed : (x y : Removed) → removedNumbers x ≡ removedNumbers y → x ≡ y
 one-removed x y e = sym (removed-at x) ∙ ap removedAt e ∙ removed-at y
+
+-- and no two answers of a follower
+flag-back : (b : Bool) → eqb (flag b) 1 ≡ b
+flag-back true = refl
+flag-back false = refl
+
+followedAt : Numbers → Followed
+followedAt k =
+    cond (eqb (k .n) 0) (cond (eqb (k .p) 1) (followed.Taken (eqb (k .q) 1) (k .r)) (followed.NotPossible (eqb (k .q) 1) (k .r)))
+    (cond (eqb (k .n) 53) followed.FollowerSet (followed.Refused (placeAt k)))
+
+followed-at : (x : Followed) → followedAt (followedNumbers x) ≡ x
+unfolding followedAt
+followed-at (followed.Taken end offered) = ap (λ b. followed.Taken b offered) (flag-back end)
+followed-at (followed.NotPossible end offered) = ap (λ b. followed.NotPossible b offered) (flag-back end)
+followed-at (followed.Refused place) =
+    rw (
+      ne-eqb (placeNumbers place .n) 0 (λ e. omega (arith, e, numbered place)),
+      ne-eqb (placeNumbers place .n) 53 (not-fifty place 3 (omega arith)),
+    ) (ap followed.Refused (place-at place))
+followed-at followed.FollowerSet = refl
+
+pub one-followed : (x y : Followed) → followedNumbers x ≡ followedNumbers y → x ≡ y
+one-followed x y e = sym (followed-at x) ∙ ap followedAt e ∙ followed-at y

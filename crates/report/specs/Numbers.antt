@@ -1,4 +1,5 @@
 -- Document 01's number and values for each case of each answer.
+use mathlib.Core.Bool.{Bool, cond}
 use Prim.Native.Nat.{ℕ}
 use Rattle.report.specs.declared.Numbers.{Numbers}
 use Rattle.report.specs.declared.Place.{Place}
@@ -9,6 +10,8 @@ use Rattle.report.specs.declared.Written.{Written}
 use Rattle.report.specs.declared.Written.the-variants as written
 use Rattle.report.specs.declared.Removed.{Removed}
 use Rattle.report.specs.declared.Removed.the-variants as removed
+use Rattle.report.specs.declared.Followed.{Followed}
+use Rattle.report.specs.declared.Followed.the-variants as followed
 
 abbrev pub four : ℕ → ℕ → ℕ → ℕ → Numbers
 four n p q r = record { n = n; p = p; q = q; r = r }
@@ -54,3 +57,15 @@ removedNumbers (removed.Refused place) = placeNumbers place
 removedNumbers removed.StandingBytes = four 50 0 0 0
 removedNumbers (removed.NoEntry v l) = four 51 v l 0
 removedNumbers (removed.NotLoop v l r) = four 52 v l r
+
+-- 1 for yes, 0 for no
+abbrev pub flag : Bool → ℕ
+flag b = cond b 1 0
+
+-- nothing refused: 0, then 1 for taken and 0 for not possible, whether the end is in the set, and how many actions are
+-- offered
+abbrev pub followedNumbers : Followed → Numbers
+followedNumbers (followed.Taken end offered) = four 0 1 (flag end) offered
+followedNumbers (followed.NotPossible end offered) = four 0 0 (flag end) offered
+followedNumbers (followed.Refused place) = placeNumbers place
+followedNumbers followed.FollowerSet = four 53 0 0 0

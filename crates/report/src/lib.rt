@@ -1,6 +1,7 @@
 // The answers, and document 01's number and values (n, p, q, r) for each of their cases.
 ghost use mathlib.Core.Path.{_≡_};
 ghost use Rattle.report.specs.Numbers.{four, placeNumbers, verdictNumbers, writtenNumbers, removedNumbers};
+ghost use Rattle.report.specs.Numbers.{flag, followedNumbers};
 
 // A refusal, which holds its place: one case for each number of document 01.
 pub enum Place {
@@ -87,6 +88,17 @@ pub enum Removed {
     NotLoop(usize, usize, usize),
 }
 
+// What an event or a restart answers: its word with whether the end is in the set and how many different actions the
+// set's vertices offer, or a refusal.
+pub enum Followed {
+    Taken(bool, usize),
+    NotPossible(bool, usize),
+    // 20, 21: of the chart
+    Refused(Place),
+    // 53: the follower's set is empty, has a vertex of V or above, or has not 16 bytes
+    FollowerSet,
+}
+
 // The refusal's number, or 0 where nothing is refused, and three values.
 #[repr(C)]
 pub struct Numbers {
@@ -169,5 +181,23 @@ pub fn removed_numbers(removed: Removed) -> Numbers
         Removed::StandingBytes => four_numbers(50, 0, 0, 0),
         Removed::NoEntry(v, l) => four_numbers(51, v, l, 0),
         Removed::NotLoop(v, l, r) => four_numbers(52, v, l, r),
+    }
+}
+
+// 1 for true, 0 for false.
+fn flag_number(b: bool) -> usize
+    ensures { λ r. ⌜ r ≡ flag b ⌝ }
+{
+    if b { 1 } else { 0 }
+}
+
+pub fn followed_numbers(followed: Followed) -> Numbers
+    ensures { λ r. ⌜ r ≡ followedNumbers followed ⌝ }
+{
+    match followed {
+        Followed::Taken(end, offered) => four_numbers(0, 1, flag_number(end), offered),
+        Followed::NotPossible(end, offered) => four_numbers(0, 0, flag_number(end), offered),
+        Followed::Refused(place) => place_numbers(place),
+        Followed::FollowerSet => four_numbers(53, 0, 0, 0),
     }
 }

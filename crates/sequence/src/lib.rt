@@ -2,11 +2,13 @@
 // anything, since nothing checks a C caller.
 ghost use mathlib.Core.Path.{_≡_};
 ghost use lib.ListN.{length};
-ghost use Rattle.report.specs.Numbers.{verdictNumbers, writtenNumbers, removedNumbers};
+ghost use Rattle.report.specs.Numbers.{verdictNumbers, writtenNumbers, removedNumbers, followedNumbers};
 ghost use Rattle.verdict.specs.Verdicts.{verdictOf};
 ghost use Rattle.expression.specs.Body.{writtenOf, bufferOf};
 ghost use Rattle.elimination.specs.Removals.{removalOf, leftOf};
+ghost use Rattle.follower.specs.States.{eventLent, restartLent};
 use report::Numbers;
+use report::followed_numbers;
 use report::removed_numbers;
 use report::verdict_numbers;
 use report::written_numbers;
@@ -44,4 +46,23 @@ pub extern "C" fn seq_remove(
         ≡ leftOf (now (chart .entry)) (now (labels .entry)) vertex level (now (standing .entry))) ⌝ }
 {
     removed_numbers(elimination::remove(chart, labels, vertex, level, standing))
+}
+
+// A restart over a chart, of a state of sixteen bytes: 0 with 1 for taken, whether the end is in the
+// set and how many actions are offered, or the refusal, which changes no byte of the state.
+#[no_mangle]
+pub extern "C" fn seq_restart(chart: &[u8], state: &mut [u8]) -> Numbers
+    ensures { λ r. ⌜ (r ≡ followedNumbers (restartLent (now (chart .entry)) (now (state .entry)) .answer))
+        × (now (state .exit) ≡ restartLent (now (chart .entry)) (now (state .entry)) .follower .set) ⌝ }
+{
+    followed_numbers(follower::restart_lent(chart, state))
+}
+
+// An event likewise: 1 for taken, 0 for not possible.
+#[no_mangle]
+pub extern "C" fn seq_event(chart: &[u8], state: &mut [u8], action: u8) -> Numbers
+    ensures { λ r. ⌜ (r ≡ followedNumbers (eventLent (now (chart .entry)) (now (state .entry)) action .answer))
+        × (now (state .exit) ≡ eventLent (now (chart .entry)) (now (state .entry)) action .follower .set) ⌝ }
+{
+    followed_numbers(follower::event_lent(chart, state, action))
 }

@@ -1,14 +1,21 @@
 -- The table of the starred cases: what is asked of the definitions that the contracts cite, and what document 01 says.
 use mathlib.Core.Bool.{Bool, true, false, _&&_}
-use mathlib.Core.List.{List, [], _∷_, _++_}
-use Prim.Native.Nat.{ℕ}
+use mathlib.Core.List.{List, [], _∷_, _++_, map}
+use Prim.Native.Nat.{ℕ, _-_}
 use lib.Dec.{eqb}
 use lib.ListN.{length, replicate}
+use Rattle.theory.specs.Expressions.{Expr}
+use Rattle.theory.specs.Nodes.{expr}
+use Rattle.theory.specs.Events.{Call, restart, event, eventRule}
+use Rattle.theory.specs.Runs.{run, runLeaves, runFresh, ruleMachine}
 use Rattle.report.specs.declared.Numbers.{Numbers}
-use Rattle.report.specs.Numbers.{four, verdictNumbers, writtenNumbers, removedNumbers}
+use Rattle.report.specs.Numbers.{four, verdictNumbers, writtenNumbers, removedNumbers, followedNumbers}
+use Rattle.expression.specs.Table.{node, count}
 use Rattle.expression.specs.Body.{writtenOf, bufferOf}
 use Rattle.witness.specs.Labellings.{labelledOf}
 use Rattle.elimination.specs.Removals.{removalOf, leftOf}
+use Rattle.follower.specs.States.{followedAs}
+use Rattle.follower.specs.Lists.{byValue, inPlace, lent}
 use Rattle.verdict.specs.Verdicts.{onLoops, accepted, verdictOf}
 
 pub data Case : Type 0 where
@@ -20,6 +27,13 @@ pub data Case : Type 0 where
   writes : (nodes lent : List ℕ) (answer : Numbers) (left : List ℕ) → Case
   -- taking out a loop, of a chart body and a labelling, from lent standing bytes: the same
   removes : (body labelling : List ℕ) (v level : ℕ) (standing : List ℕ) (answer : Numbers) (left : List ℕ) → Case
+  -- events and restarts over a chart body: on a state by value, on one that is lent itself, on lent bytes, each call on
+  -- what the one before handed back or left: the answers' four numbers, and the state's bytes after the list
+  follows : (body state : List ℕ) (calls : List Call) (answers : List Numbers) (left : List ℕ) → Case
+  follows-in-place : (body state : List ℕ) (calls : List Call) (answers : List Numbers) (left : List ℕ) → Case
+  follows-lent : (body state : List ℕ) (calls : List Call) (answers : List Numbers) (left : List ℕ) → Case
+  -- the published rules' follower for some nodes, from a fresh start
+  rules-follow : (nodes : List ℕ) (calls : List Call) (answers : List Numbers) → Case
 
 abbrev pub sameNumbers : Numbers → Numbers → Bool
 sameNumbers a b = eqb (a .n) (b .n) && eqb (a .p) (b .p) && eqb (a .q) (b .q) && eqb (a .r) (b .r)
@@ -29,6 +43,16 @@ sameBytes [] [] = true
 sameBytes [] (y ∷ ys) = false
 sameBytes (x ∷ xs) [] = false
 sameBytes (x ∷ xs) (y ∷ ys) = eqb x y && sameBytes xs ys
+
+abbrev pub sameAnswers : List Numbers → List Numbers → Bool
+sameAnswers [] [] = true
+sameAnswers [] (y ∷ ys) = false
+sameAnswers (x ∷ xs) [] = false
+sameAnswers (x ∷ xs) (y ∷ ys) = sameNumbers x y && sameAnswers xs ys
+
+-- the root's expression
+abbrev pub rootOf : List ℕ → Expr
+rootOf nodes = expr (node nodes) (count nodes - 1)
 
 abbrev pub holds : Case → Bool
 holds (checks file answer) = sameNumbers (verdictNumbers (verdictOf file)) answer
@@ -40,6 +64,18 @@ holds (writes nodes lent answer left) =
 holds (removes body labelling v level standing answer left) =
     sameNumbers (removedNumbers (removalOf body labelling v level standing)) answer
     && sameBytes (leftOf body labelling v level standing) left
+holds (follows body state calls answers left) =
+    sameAnswers (map followedNumbers (run (byValue body) calls (record { set = state }))) answers
+    && sameBytes (runLeaves (byValue body) calls (record { set = state }) .set) left
+holds (follows-in-place body state calls answers left) =
+    sameAnswers (map followedNumbers (run (inPlace body) calls (record { set = state }))) answers
+    && sameBytes (runLeaves (inPlace body) calls (record { set = state }) .set) left
+holds (follows-lent body state calls answers left) =
+    sameAnswers (map followedNumbers (run (lent body) calls state)) answers
+    && sameBytes (runLeaves (lent body) calls state) left
+holds (rules-follow nodes calls answers) =
+    sameAnswers (map (λ x. followedNumbers (followedAs x)) (runFresh eventRule (ruleMachine (rootOf nodes)) tt calls))
+    answers
 
 abbrev pub allHold : List Case → Bool
 allHold [] = true
@@ -72,7 +108,7 @@ chartG =
     ∷ 0x01 ∷ 0x01 ∷ 0x01 ∷ 0x00
     ∷ 0x01 ∷ 0x02 ∷ 0x00 ∷ 0x00 ∷ []
 
--- a row of a relation whose first byte is given
+-- a row of a relation, or a state, whose first byte is given
 abbrev pub relationRow : ℕ → List ℕ
 relationRow b = b ∷ replicate 15 0x00
 
@@ -121,6 +157,13 @@ writtenSum =
     ∷ 0x02 ∷ 0x07 ∷ 0x00 ∷ 0x00
     ∷ 0x03 ∷ 0x07 ∷ 0x00 ∷ 0x00 ∷ []
 
+-- restart, 1, 2, 1 over G: taken no 2; taken no 2; taken yes 0; not possible yes 0
+unfoldable pub callsG : List Call
+callsG = restart ∷ event 1 ∷ event 2 ∷ event 1 ∷ []
+
+unfoldable pub answersG : List Numbers
+answersG = four 0 1 0 2 ∷ four 0 1 0 2 ∷ four 0 1 1 0 ∷ four 0 0 1 0 ∷ []
+
 unfoldable pub cases : List Case
 cases =
     -- G
@@ -163,4 +206,26 @@ cases =
     -- a standing byte that is neither 0 nor 1; one too few
     ∷ removes nested nestedLabels 2 1 (standing 1 1 1 2) (four 50 0 0 0) (standing 1 1 1 2)
     ∷ removes nested nestedLabels 2 1 (1 ∷ 1 ∷ 1 ∷ []) (four 50 0 0 0) (1 ∷ 1 ∷ 1 ∷ [])
+    -- restart, 1, 2, 1 over G's chart, over its expression chart and by the rules; the end alone is left
+    ∷ follows chartG (relationRow 0x00) callsG answersG (relationRow 0x01)
+    ∷ follows-in-place chartG (relationRow 0x00) callsG answersG (relationRow 0x01)
+    ∷ follows-lent chartG (replicate 16 0xAA) callsG answersG (relationRow 0x01)
+    ∷ follows writtenG (relationRow 0x00) callsG answersG (relationRow 0x01)
+    ∷ follows-in-place writtenG (relationRow 0x00) callsG answersG (relationRow 0x01)
+    ∷ follows-lent writtenG (replicate 16 0xAA) callsG answersG (relationRow 0x01)
+    ∷ rules-follow nodesG callsG answersG
+    -- the empty set, and one with the vertex V: an event is refused 53 and leaves them, a restart is taken
+    ∷ follows chartG (relationRow 0x00) (event 1 ∷ restart ∷ []) (four 53 0 0 0 ∷ four 0 1 0 2 ∷ []) (relationRow 0x02)
+    ∷ follows chartG (relationRow 0x06) (event 1 ∷ []) (four 53 0 0 0 ∷ []) (relationRow 0x06)
+    ∷ follows-lent chartG (relationRow 0x06) (event 1 ∷ []) (four 53 0 0 0 ∷ []) (relationRow 0x06)
+    -- fifteen lent bytes are refused 53, by a restart too
+    ∷ follows-lent chartG (replicate 15 0x00) (restart ∷ event 1 ∷ []) (four 53 0 0 0 ∷ four 53 0 0 0 ∷ [])
+    (replicate 15 0x00)
+    -- event 0 is not possible
+    ∷ follows chartG (relationRow 0x02) (event 0 ∷ []) (four 0 0 0 2 ∷ []) (relationRow 0x02)
+    -- no chart: a refused restart hands back the empty set by value, and leaves lent bytes as they are
+    ∷ follows [] (relationRow 0x02) (event 1 ∷ restart ∷ []) (four 20 0 0 0 ∷ four 20 0 0 0 ∷ []) (relationRow 0x00)
+    ∷ follows-lent [] (relationRow 0x02) (restart ∷ []) (four 20 0 0 0 ∷ []) (relationRow 0x02)
+    -- a + a offers one action
+    ∷ rules-follow nodesSum (restart ∷ event 7 ∷ []) (four 0 1 0 1 ∷ four 0 1 1 0 ∷ [])
     ∷ []

@@ -27,6 +27,8 @@ pub mod Bounds
 pub mod Rules
 -- relations and followers
 pub mod Relations
+pub mod Systems
 pub mod Followers
+pub mod Events
 pub mod Runs
 pub mod FollowerCases

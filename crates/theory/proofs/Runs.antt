@@ -1,132 +1,176 @@
--- The follower run is the follower: its answers are those that the meaning has, over a machine's system and over the published rules.
+-- Followers that run are followers: what meets a rule at each call meets it over every list; and every rule has answers to every
+-- list over a machine, over a chart and over the published rules.
 use Prim.Native.Nat.{ℕ}
-use mathlib.Core.Path.{_≡_, refl, ap, sym}
-use mathlib.Core.Logic.{_⊎_, inl, inr, _↔_, Iff·rfl, ⊎-elim}
-use mathlib.Core.Bool.{Bool, true, false, cond, _||_, false≢true}
-use mathlib.Core.List.{List, [], _∷_, map, List·Memᴰ, List·Memᴰ·head, List·Memᴰ·tail, List·Memᴰ·not-nil, List·Memᴰ·cases-cons, List·Memᴰ·append-cases, List·Memᴰ·eq-of-singleton, Memᴰ·cast, Memᴰ·append-left, Memᴰ·append-right, Memᴰ·map, Memᴰ·of-map}
+use mathlib.Core.Path.{_≡_, refl, ap, ap₂, sym, _∙_}
+use mathlib.Core.Logic.{_⊎_, inl, inr, Iff·rfl, ⊎-elim}
+use mathlib.Core.Bool.{Bool, true, false, cond, false≢true}
+use mathlib.Core.List.{List, [], _∷_, map, map-id, flatMap, List·Memᴰ, List·Memᴰ·head, List·Memᴰ·tail, List·Memᴰ·not-nil, List·Memᴰ·cases-cons, List·Memᴰ·append-cases, List·Memᴰ·eq-of-singleton, Memᴰ·cast, Memᴰ·append-left, Memᴰ·append-right, Memᴰ·map, Memᴰ·of-map}
 use lib.Dec.{eqb, ltb}
 use borrow.Author.Tests.{eqb-true, eqb-false}
-use Rattle.theory.specs.Ascending.{sort}
-use Rattle.theory.specs.Systems.{Bisimulation}
+use Rattle.theory.specs.Systems.{System, Bisimulation}
+use Rattle.theory.specs.Tests.{Decides}
+use Rattle.theory.specs.Transitions.{Transition, chart}
 use Rattle.theory.specs.Expressions.{Expr, Target, end, to}
 use Rattle.theory.specs.Rules.{Derives, by-rules, rules}
-use Rattle.theory.specs.Followers.{Call, restart, event, Answer, Next, Offered, Told, Moves, restarts, takes, keeps, refuses, Follows, none, call, Fresh}
-use Rattle.theory.specs.Runs.{Machine, system, pick, next, holdsEnd, actions, offered, eventAnswer, eventMembers, answerTo, membersAfter, run, targetMoves, isEndTarget, ruleMachine}
+use Rattle.theory.specs.Followers.{StateSet, SameMembers, Fresh, Some, Offered, Shows, Effect, keep, fresh, empty, go, Becomes, FollowerRule, Responds, Follows, none, call, Answers}
+use Rattle.theory.specs.Runs.{run, runLeaves, Machine, system, MembersOf, movesOf, nonempty, viewOf, pick, leftBy, callOn, runFresh, fromAndMove, chartMachine, targetMoves, isEndTarget, ruleMachine}
 use Rattle.theory.proofs.Ascending.{sort-ascends, sort→, sort←, ltb-order}
 use Rattle.theory.proofs.Derivatives.{derivatives-sound, derivatives-complete}
-use Rattle.theory.proofs.Followers.{equal-states, follows-same, one-answers, fresh-agree, fresh-carried}
+use Rattle.theory.proofs.Systems.{equal-states}
+use Rattle.theory.proofs.Tests.{decides-eqb, decides-in}
+use Rattle.theory.proofs.Followers.{fresh-carried, from-fresh}
 
--- what is picked: the targets of a
+-- FROM ONE CALL TO EVERY LIST. A state s of the function f has the members P s and keeps k s; f meets the rule on the states with
+-- G, which it keeps, and writes the answer x as `written x`
+module _ (rule : FollowerRule) (M : System) {S B : Type 0} (f : S → rule .Call → B × S) (written : rule .Answer → B)
+    (P : S → StateSet M) (k : S → rule .Kept) (G : S → Type 0)
+    (each : (s : S) (c : rule .Call) → G s
+    → (x : rule .Answer) × (f s c .0 ≡ written x) × Responds rule M (P s) (k s) c x (P (f s c .1)) (k (f s c .1)) × G (f s c .1)) where
+  pub run-follows : (cs : List (rule .Call)) (s : S) → G s
+      → (xs : List (rule .Answer)) × (run f cs s ≡ map written xs)
+      × Follows rule M (P s) (k s) cs xs (P (runLeaves f cs s)) (k (runLeaves f cs s)) × G (runLeaves f cs s)
+  run-follows [] s g = ([], refl, none, g)
+  run-follows (c ∷ cs) s g =
+      let (x, e, r, g′) = each s c g in
+      let (xs, q, h, g″) = run-follows cs (f s c .1) g′ in
+      (x ∷ xs, ap₂ _∷_ e q, call r h, g″)
+
+-- what stands beside a in a list of pairs
 pick→ : {A : Type 0} (a : ℕ) (ms : List (ℕ × A)) (y : A) → List·Memᴰ y (pick a ms) → List·Memᴰ (a, y) ms
+unfolding pick
 pick→ a [] y h = absurd (List·Memᴰ·not-nil h)
 pick→ a (m ∷ ms) y h = go (eqb a (m .0)) refl (pick→ a ms y) h
   where
-    go : (b : Bool) → eqb a (m .0) ≡ b → (List·Memᴰ y (pick a ms) → List·Memᴰ (a, y) ms) → List·Memᴰ y (cond b (m .1 ∷ pick a ms) (pick a ms)) → List·Memᴰ (a, y) (m ∷ ms)
-    go true e i h = ⊎-elim (λ (q : y ≡ m .1). List·Memᴰ·head (λ i. (eqb-true a (m .0) e i, q i))) (λ j. List·Memᴰ·tail (i j)) (List·Memᴰ·cases-cons h)
+    go : (b : Bool) → eqb a (m .0) ≡ b → (List·Memᴰ y (pick a ms) → List·Memᴰ (a, y) ms)
+        → List·Memᴰ y (cond b (m .1 ∷ pick a ms) (pick a ms)) → List·Memᴰ (a, y) (m ∷ ms)
+    go true e i h =
+        ⊎-elim (λ (q : y ≡ m .1). List·Memᴰ·head (λ i. (eqb-true a (m .0) e i, q i)))
+        (λ j. List·Memᴰ·tail (i j)) (List·Memᴰ·cases-cons h)
     go false e i h = List·Memᴰ·tail (i h)
 
 pick← : {A : Type 0} (a : ℕ) (ms : List (ℕ × A)) (y : A) → List·Memᴰ (a, y) ms → List·Memᴰ y (pick a ms)
+unfolding pick
 pick← a [] y h = absurd (List·Memᴰ·not-nil h)
 pick← a (m ∷ ms) y h = go (eqb a (m .0)) refl (pick← a ms y) (List·Memᴰ·cases-cons h)
   where
-    go : (b : Bool) → eqb a (m .0) ≡ b → (List·Memᴰ (a, y) ms → List·Memᴰ y (pick a ms)) → ((a, y) ≡ m) ⊎ List·Memᴰ (a, y) ms → List·Memᴰ y (cond b (m .1 ∷ pick a ms) (pick a ms))
+    go : (b : Bool) → eqb a (m .0) ≡ b → (List·Memᴰ (a, y) ms → List·Memᴰ y (pick a ms))
+        → ((a, y) ≡ m) ⊎ List·Memᴰ (a, y) ms → List·Memᴰ y (cond b (m .1 ∷ pick a ms) (pick a ms))
     go true e i (inl q) = List·Memᴰ·head (ap (λ p. p .1) q)
     go true e i (inr j) = List·Memᴰ·tail (i j)
     go false e i (inl q) = absurd (eqb-false a (m .0) e (ap (λ p. p .0) q))
     go false e i (inr j) = i j
 
+-- what some entry of a list has
+flat→ : {A B : Type 0} (f : A → List B) (xs : List A) (m : B)
+    → List·Memᴰ m (flatMap f xs) → (x : A) × List·Memᴰ x xs × List·Memᴰ m (f x)
+unfolding flatMap
+flat→ f [] m h = absurd (List·Memᴰ·not-nil h)
+flat→ f (x ∷ xs) m h =
+    ⊎-elim (λ i. (x, List·Memᴰ·head refl, i))
+    (λ i. let (y, g, j) = flat→ f xs m i in (y, List·Memᴰ·tail g, j))
+    (List·Memᴰ·append-cases (f x) h)
+
+flat← : {A B : Type 0} (f : A → List B) (xs : List A) (m : B) (x : A)
+    → List·Memᴰ x xs → List·Memᴰ m (f x) → List·Memᴰ m (flatMap f xs)
+unfolding flatMap
+flat← f [] m x h i = absurd (List·Memᴰ·not-nil h)
+flat← f (z ∷ xs) m x h i =
+    ⊎-elim (λ (e : x ≡ z). Memᴰ·append-left (flatMap f xs) (rw e at i))
+    (λ j. Memᴰ·append-right (f z) (flat← f xs m x j i))
+    (List·Memᴰ·cases-cons h)
+
 module _ (M : Machine) where
-  -- the members that a list holds
-  abbrev Of : List (M .State) → M .State → Type 0
-  Of xs x = List·Memᴰ x xs
+  one-member : SameMembers (system M) (MembersOf M (M .start ∷ [])) (Fresh (system M))
+  one-member x = (List·Memᴰ·eq-of-singleton, λ e. List·Memᴰ·head e)
 
-  next→ : (a : ℕ) (xs : List (M .State)) (y : M .State) → List·Memᴰ y (next M a xs) → Next (system M) (Of xs) a y
-  next→ a [] y h = absurd (List·Memᴰ·not-nil h)
-  next→ a (x ∷ xs) y h =
-      ⊎-elim (λ i. (x, List·Memᴰ·head refl, pick→ a (M .moves x) y i))
-      (λ i. let r = next→ a xs y i in (r .0, List·Memᴰ·tail (r .1), r .2))
-      (List·Memᴰ·append-cases (pick a (M .moves x)) h)
+  some-tested : (xs : List (M .State)) → Decides (nonempty xs) (Some (system M) (MembersOf M xs))
+  some-tested [] = (λ e. absurd (false≢true e), λ h. absurd (List·Memᴰ·not-nil (h .1)))
+  some-tested (x ∷ xs) = (λ e. (x, List·Memᴰ·head refl), λ h. refl)
 
-  next← : (a : ℕ) (xs : List (M .State)) (x y : M .State) → List·Memᴰ x xs → List·Memᴰ (a, y) (M .moves x) → List·Memᴰ y (next M a xs)
-  next← a [] x y h i = absurd (List·Memᴰ·not-nil h)
-  next← a (z ∷ xs) x y h i =
-      ⊎-elim (λ (e : x ≡ z). Memᴰ·append-left (next M a xs) (pick← a (M .moves z) y (rw e at i)))
-      (λ j. Memᴰ·append-right (pick a (M .moves z)) (next← a xs x y j i))
-      (List·Memᴰ·cases-cons h)
+  abbrev actions : List (M .State) → List ℕ
+  actions xs = map (λ m. m .0) (movesOf M xs)
 
-  next-members : (a : ℕ) (xs : List (M .State)) (y : M .State) → List·Memᴰ y (next M a xs) ↔ Next (system M) (Of xs) a y
-  next-members a xs y = (next→ a xs y, λ h. next← a xs (h .0) y (h .1) (h .2))
+  offered→ : (xs : List (M .State)) (a : ℕ) → List·Memᴰ a (actions xs) → Offered (system M) (MembersOf M xs) a
+  offered→ xs a h =
+      let (m, i, e) = Memᴰ·of-map (λ m. m .0) (movesOf M xs) h in
+      let (x, g, j) = flat→ (M .moves) xs m i in
+      (m .1, (x, g, Memᴰ·cast (ap (λ b. (b, m .1)) (sym e)) j))
 
-  ends→ : (xs : List (M .State)) → holdsEnd M xs ≡ true → (x : M .State) × List·Memᴰ x xs × (M .isEnd x ≡ true)
-  ends→ [] e = absurd (false≢true e)
-  ends→ (x ∷ xs) e = go (M .isEnd x) refl (ends→ xs) e
-    where
-      go : (b : Bool) → M .isEnd x ≡ b → (holdsEnd M xs ≡ true → (y : M .State) × List·Memᴰ y xs × (M .isEnd y ≡ true)) → b || holdsEnd M xs ≡ true → (y : M .State) × List·Memᴰ y (x ∷ xs) × (M .isEnd y ≡ true)
-      go true p i e = (x, List·Memᴰ·head refl, p)
-      go false p i e = let r = i e in (r .0, List·Memᴰ·tail (r .1), r .2)
+  offered← : (xs : List (M .State)) (a : ℕ) → Offered (system M) (MembersOf M xs) a → List·Memᴰ a (actions xs)
+  offered← xs a (y, (x, g, j)) = Memᴰ·map (λ m. m .0) (flat← (M .moves) xs (a, y) x g j)
 
-  ends← : (xs : List (M .State)) (x : M .State) → List·Memᴰ x xs → M .isEnd x ≡ true → holdsEnd M xs ≡ true
-  ends← [] x h e = absurd (List·Memᴰ·not-nil h)
-  ends← (z ∷ xs) x h e = ⊎-elim (λ (q : x ≡ z). rw (rw q at e)) (λ i. go (M .isEnd z) (ends← xs x i e)) (List·Memᴰ·cases-cons h)
-    where
-      go : (b : Bool) → holdsEnd M xs ≡ true → b || holdsEnd M xs ≡ true
-      go true e = refl
-      go false e = e
-
-  actions→ : (xs : List (M .State)) (a : ℕ) → List·Memᴰ a (actions M xs) → Offered (system M) (Of xs) a
-  actions→ [] a h = absurd (List·Memᴰ·not-nil h)
-  actions→ (x ∷ xs) a h =
-      ⊎-elim (λ i. let r = Memᴰ·of-map (λ m. m .0) (M .moves x) i in (r .0 .1, (x, List·Memᴰ·head refl, Memᴰ·cast (ap (λ b. (b, r .0 .1)) (sym (r .2))) (r .1))))
-      (λ i. let r = actions→ xs a i in (r .0, (r .1 .0, List·Memᴰ·tail (r .1 .1), r .1 .2)))
-      (List·Memᴰ·append-cases (map (λ m. m .0) (M .moves x)) h)
-
-  actions← : (xs : List (M .State)) (a : ℕ) (x y : M .State) → List·Memᴰ x xs → List·Memᴰ (a, y) (M .moves x) → List·Memᴰ a (actions M xs)
-  actions← [] a x y h i = absurd (List·Memᴰ·not-nil h)
-  actions← (z ∷ xs) a x y h i =
-      ⊎-elim (λ (e : x ≡ z). Memᴰ·append-left (actions M xs) (Memᴰ·map (λ m. m .0) (rw e at i)))
-      (λ j. Memᴰ·append-right (map (λ m. m .0) (M .moves z)) (actions← xs a x y j i))
-      (List·Memᴰ·cases-cons h)
-
-  told-members : (xs : List (M .State)) → Told (system M) (Of xs) (holdsEnd M xs) (offered M xs)
-  told-members xs = record {
-    ends = (ends→ xs, λ h. ends← xs (h .0) (h .1) (h .2));
-    offers = record {
-      which = sort ltb (actions M xs);
-      ascend = sort-ascends ltb (actions M xs);
-      exactly = λ a. (λ h. actions→ xs a (sort→ ltb a (actions M xs) h), λ h. sort← ltb ltb-order a (actions M xs) (actions← xs a (h .1 .0) (h .0) (h .1 .1) (h .1 .2)));
-      many = refl;
-    };
+  -- WHAT A LIST SHOWS, and what an effect leaves of it
+  pub view-shows : (xs : List (M .State)) → Shows (system M) (MembersOf M xs) (viewOf M xs)
+  view-shows xs = record {
+    some = some-tested xs;
+    end = decides-in (λ x. Iff·rfl) xs;
+    ascending = sort-ascends ltb (actions xs);
+    offered = λ a. (
+      λ h. offered→ xs a (sort→ ltb a (actions xs) h),
+      λ o. sort← ltb ltb-order a (actions xs) (offered← xs a o),
+    );
   }
 
-  event-moves : (a : ℕ) (x : M .State) (xs ys : List (M .State)) → ((y : M .State) → List·Memᴰ y ys ↔ Next (system M) (Of (x ∷ xs)) a y) → Moves (system M) (Of (x ∷ xs)) (event a) (eventAnswer M (x ∷ xs) ys) (Of (eventMembers (x ∷ xs) ys))
-  event-moves a x xs [] s = keeps (x, List·Memᴰ·head refl) (λ o. List·Memᴰ·not-nil (s (o .0) .1 (o .1))) (λ y. Iff·rfl) (told-members (x ∷ xs))
-  event-moves a x xs (y ∷ ys) s = takes (y, s y .0 (List·Memᴰ·head refl)) s (told-members (y ∷ ys))
+  pub effect-members : (e : Effect) (xs : List (M .State))
+      → SameMembers (system M) (MembersOf M (leftBy M e xs)) (Becomes (system M) (MembersOf M xs) e)
+  effect-members keep xs = λ y. Iff·rfl
+  effect-members fresh xs = one-member
+  effect-members empty xs = λ y. (List·Memᴰ·not-nil, λ h. absurd h)
+  effect-members (go a) xs = λ y. (
+    λ h. flat→ (M .moves) xs (a, y) (pick→ a (movesOf M xs) y h),
+    λ (x, g, j). pick← a (movesOf M xs) y (flat← (M .moves) xs (a, y) x g j),
+  )
 
-  one-member : (s x : M .State) → List·Memᴰ x (s ∷ []) ↔ (x ≡ s)
-  one-member s x = (List·Memᴰ·eq-of-singleton, λ e. List·Memᴰ·head e)
+  module _ (rule : FollowerRule) where
+    abbrev RunState : Type 0
+    RunState = rule .Kept × List (M .State)
 
-  call-moves : (c : Call) (xs : List (M .State)) → Moves (system M) (Of xs) c (answerTo M c xs) (Of (membersAfter M c xs))
-  call-moves restart xs = restarts (one-member (M .start)) (told-members (M .start ∷ []))
-  call-moves (event a) [] = refuses (λ p. List·Memᴰ·not-nil (p .1)) (λ y. Iff·rfl)
-  call-moves (event a) (x ∷ xs) = event-moves a x xs (next M a (x ∷ xs)) (next-members a (x ∷ xs))
+    pub call-responds : (s : RunState) (c : rule .Call) → let t = callOn rule M s c in
+        Responds rule (system M) (MembersOf M (s .1)) (s .0) c (t .0) (MembersOf M (t .1 .1)) (t .1 .0)
+    call-responds s c =
+        let e = rule .response (s .0) c (viewOf M (s .1)) .effect in
+        record {
+          before = viewOf M (s .1);
+          after = viewOf M (leftBy M e (s .1));
+          shown-before = view-shows (s .1);
+          shown-after = view-shows (leftBy M e (s .1));
+          members = effect-members e (s .1);
+          answer = refl;
+          kept = refl;
+        }
 
-  -- THE RUN IS THE MEANING
-  pub run-follows : (cs : List Call) (xs : List (M .State)) → Follows (system M) (λ x. List·Memᴰ x xs) cs (run M cs xs)
-  run-follows [] xs = none
-  run-follows (c ∷ cs) xs = call (call-moves c xs) (run-follows cs (membersAfter M c xs))
+    -- THE RUN IS THE MEANING: the answers are the rule's, and so is what is left
+    pub machine-follows : (cs : List (rule .Call)) (s : RunState) → let t = runLeaves (callOn rule M) cs s in
+        Follows rule (system M) (MembersOf M (s .1)) (s .0) cs (run (callOn rule M) cs s) (MembersOf M (t .1)) (t .0)
+    machine-follows cs s =
+        let (xs, e, h, g) =
+        run-follows rule (system M) (callOn rule M) (λ x. x) (λ s. MembersOf M (s .1)) (λ s. s .0) (λ s. Unit {0})
+        (λ s c g. (callOn rule M s c .0, refl, call-responds s c, tt)) cs s tt in
+        rw (e ∙ map-id xs) h
 
-  pub fresh-run : (cs : List Call) → Follows (system M) (Fresh (system M)) cs (run M cs (M .start ∷ []))
-  fresh-run cs = follows-same (system M) (one-member (M .start)) (run-follows cs (M .start ∷ []))
+    -- ANSWERS EXIST to every list, over every system that has a bisimulation with a machine's
+    pub machine-answers : {N : System} {R : M .State → N .State → Type 0} → Bisimulation (system M) N R
+        → (k : rule .Kept) (cs : List (rule .Call)) → Answers rule N k cs (runFresh rule M k cs)
+    machine-answers b k cs = fresh-carried b rule (from-fresh rule (system M) one-member (machine-follows cs (k, M .start ∷ [])))
 
-  pub one-run : {cs : List Call} {xs : List Answer} → Follows (system M) (Fresh (system M)) cs xs → xs ≡ run M cs (M .start ∷ [])
-  one-run {cs} f = one-answers (system M) f (fresh-run cs)
+-- A CHART has the steps and the end of its machine
+pub chart-machine : (start : ℕ) (ts : List Transition) → Bisimulation (system (chartMachine start ts)) (chart start ts) _≡_
+chart-machine start ts = equal-states (λ v. decides-eqb v 0) (λ u a w. (to u a w, from u a w))
+  where
+    to : (u a w : ℕ) → List·Memᴰ (a, w) (pick u (map fromAndMove ts)) → List·Memᴰ (u, a, w) ts
+    to u a w h =
+        let (t, i, e) = Memᴰ·of-map fromAndMove ts (pick→ u (map fromAndMove ts) (a, w) h) in
+        Memᴰ·cast (sym (ap (λ (m : ℕ × (ℕ × ℕ)). (m .0, m .1 .0, m .1 .1)) e)) i
 
--- runs over bisimilar machines
-pub runs-agree : {M N : Machine} {R : M .State → N .State → Type 0} → Bisimulation (system M) (system N) R → (cs : List Call) → run M cs (M .start ∷ []) ≡ run N cs (N .start ∷ [])
-runs-agree {M} {N} b cs = fresh-agree b (fresh-run M cs) (fresh-run N cs)
+    from : (u a w : ℕ) → List·Memᴰ (u, a, w) ts → List·Memᴰ (a, w) (pick u (map fromAndMove ts))
+    from u a w h = pick← u (map fromAndMove ts) (a, w) (Memᴰ·map fromAndMove h)
 
--- THE PUBLISHED RULES
-end-tested : (t : Target) → (isEndTarget t ≡ true) ↔ (t ≡ end)
+pub chart-answers : (start : ℕ) (ts : List Transition) (rule : FollowerRule) (k : rule .Kept) (cs : List (rule .Call))
+    → Answers rule (chart start ts) k cs (runFresh rule (chartMachine start ts) k cs)
+chart-answers start ts rule = machine-answers (chartMachine start ts) rule (chart-machine start ts)
+
+-- THE PUBLISHED RULES have the steps and the end of theirs
+end-tested : (t : Target) → Decides (isEndTarget t) (t ≡ end)
 end-tested end = (λ e. refl, λ e. refl)
 end-tested (to e) = (λ h. absurd (false≢true h), λ h. ap isEndTarget h)
 
@@ -140,8 +184,6 @@ target-moves← (by-rules s) = derivatives-complete s
 pub rules-machine : (e : Expr) → Bisimulation (system (ruleMachine e)) (rules e) _≡_
 rules-machine e = equal-states end-tested (λ t a u. (target-moves→ t a u, target-moves←))
 
-pub rules-run : (e : Expr) (cs : List Call) → Follows (rules e) (Fresh (rules e)) cs (run (ruleMachine e) cs (to e ∷ []))
-rules-run e cs = fresh-carried (rules-machine e) (fresh-run (ruleMachine e) cs)
-
-pub one-rules-run : (e : Expr) {cs : List Call} {xs : List Answer} → Follows (rules e) (Fresh (rules e)) cs xs → xs ≡ run (ruleMachine e) cs (to e ∷ [])
-one-rules-run e {cs} f = one-answers (rules e) f (rules-run e cs)
+pub rules-answers : (e : Expr) (rule : FollowerRule) (k : rule .Kept) (cs : List (rule .Call))
+    → Answers rule (rules e) k cs (runFresh rule (ruleMachine e) k cs)
+rules-answers e rule = machine-answers (ruleMachine e) rule (rules-machine e)

@@ -2,13 +2,14 @@
 use mathlib.Core.Path.{_≡_, refl, sym, _∙_, subst}
 use mathlib.Core.Logic.{_⊎_, inl, inr, ⊎-elim, _↔_}
 use mathlib.Core.Bool.{Bool, true, false, cond, _&&_, _||_, not, false≢true}
+use mathlib.Core.List.{List, [], _∷_, List·Memᴰ, List·Memᴰ·head, List·Memᴰ·tail, List·Memᴰ·not-nil, List·Memᴰ·cases-cons, Memᴰ·cast}
 use Prim.Native.Nat.{ℕ, zero, suc, _≤_, _<_}
 use native.Mathlib.Omega.{arith}
 use native.Mathlib.Decide.{ℕ-discrete}
 use lib.Dec.{eqb, ltb, leb}
 use borrow.Author.Tests.{eqb-true, eq-eqb, ltb-true, lt-ltb, leb-true, le-leb}
 use Rattle.theory.specs.Least.{Least, FirstPair}
-use Rattle.theory.specs.Tests.{Decides, someBelow, lowest, Stops, firstRow}
+use Rattle.theory.specs.Tests.{Decides, someBelow, someIn, lowest, Stops, firstRow}
 
 pub decided : {b : Bool} {P : Type 0} → Decides b P → Dec P
 decided {b} {P} d = go b d
@@ -105,6 +106,21 @@ decides-below {p} {P} d (suc n) = decides-same (to, from) (decides-or (d n) (dec
 
     from : (k : ℕ) × (k < suc n) × P k → P n ⊎ ((k : ℕ) × (k < n) × P k)
     from (k, h, q) = elim (ℕ-discrete k n) [ yes e ↦ inl (subst P e q) | no e ↦ inr (k, omega arith, q) ]
+
+pub decides-in : {A : Type 0} {p : A → Bool} {P : A → Type 0} → ((x : A) → Decides (p x) (P x)) → (l : List A) → Decides (someIn p l) ((x : A) × List·Memᴰ x l × P x)
+unfolding someIn
+decides-in d [] = ((λ e. absurd (false≢true e)), (λ (x, h, q). absurd (List·Memᴰ·not-nil h)))
+decides-in {A} {p} {P} d (y ∷ l) = decides-same (to, from) (decides-or (d y) (decides-in d l))
+  where
+    to : P y ⊎ ((x : A) × List·Memᴰ x l × P x) → (x : A) × List·Memᴰ x (y ∷ l) × P x
+    to (inl q) = (y, List·Memᴰ·head refl, q)
+    to (inr (x, h, q)) = (x, List·Memᴰ·tail h, q)
+
+    from : (x : A) × List·Memᴰ x (y ∷ l) × P x → P y ⊎ ((x : A) × List·Memᴰ x l × P x)
+    from (x, h, q) = ⊎-elim (λ (e : x ≡ y). inl (subst P e q)) (λ i. inr (x, i, q)) (List·Memᴰ·cases-cons h)
+
+pub decides-listed : (a : ℕ) (l : List ℕ) → Decides (someIn (eqb a) l) (List·Memᴰ a l)
+decides-listed a l = decides-same ((λ (b, h, e). Memᴰ·cast e h), (λ h. (a, h, refl))) (decides-in (decides-eqb a) l)
 
 pub lowest-stops : (p : ℕ → Bool) (i n : ℕ) → Stops p i n (lowest p i n)
 unfolding lowest

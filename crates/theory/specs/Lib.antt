@@ -21,6 +21,7 @@ pub mod ExpressionCharts
 -- relations and followers
 pub mod Relations
 pub mod Followers
+pub mod Events
 -- THE TESTS, which run: each decides or lists what one of the above means, by a law
 pub mod Tests
 pub mod Reachability

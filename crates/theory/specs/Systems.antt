@@ -1,4 +1,5 @@
 -- Transition systems, of which charts are instances, and bisimulations between them (001, section 2).
+use mathlib.Core.Path.{_≡_}
 use mathlib.Core.Logic.{_↔_}
 use Prim.Native.Nat.{ℕ}
 
@@ -28,3 +29,12 @@ pub record Bisimulation (M N : System) (R : M .State → N .State → Type 0) : 
 -- a relation between states, lifted to sets of them: each member of P is related to one of Q, and each of Q to one of P
 abbrev pub Lift : {A B : Type 0} → (A → B → Type 0) → (A → Type 0) → (B → Type 0) → Type 0
 Lift {A} {B} R P Q = ((x : A) → P x → (y : B) × Q y × R x y) × ((y : B) → Q y → (x : A) × P x × R x y)
+
+-- the system with each action a replaced by f a
+abbrev pub renamed : (ℕ → ℕ) → System → System
+renamed f M = record {
+  State = M .State;
+  start = M .start;
+  End = M .End;
+  Step = λ x b y. (a : ℕ) × M .Step x a y × (b ≡ f a);
+}

@@ -13,6 +13,11 @@ unfoldable pub someBelow : (ℕ → Bool) → ℕ → Bool
 someBelow p zero = false
 someBelow p (suc n) = p n || someBelow p n
 
+-- some entry of a list passes
+unfoldable pub someIn : {A : Type 0} → (A → Bool) → List A → Bool
+someIn p [] = false
+someIn p (x ∷ xs) = p x || someIn p xs
+
 -- of the n numbers from i on, the lowest that passes, or the next after them
 unfoldable pub lowest : (ℕ → Bool) → ℕ → ℕ → ℕ
 lowest p i zero = i

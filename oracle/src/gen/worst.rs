@@ -1,7 +1,8 @@
-//! Files at the limits, each hard on one stage of the check, and removals at the
-//! limits. All files are accepted.
+//! Files at the limits, each hard on one stage of the check, and removals and
+//! calls of the follower at the limits. All files are accepted.
 use super::charts::chart_of;
 use super::expressions::{self, Shape};
+use super::lists::Call;
 use super::relations;
 use super::rng::Rng;
 use super::Yard;
@@ -408,4 +409,37 @@ pub fn removals() -> Vec<(&'static str, Removal)> {
         ("refused 52 r 2 chain", chain(127)),
         ("refused 52 r 3", dense(step(2, 1, 0), 0)),
     ]
+}
+
+/// A call of the follower on a state.
+#[derive(Clone, Debug)]
+pub struct FollowerCall {
+    pub chart: Vec<u8>,
+    pub state: [u8; 16],
+    pub call: Call,
+}
+
+/// Calls over charts of 128 vertices and 8,192 transitions, each with its name.
+/// A small set has one vertex, a full one all of them. In the dense chart each
+/// vertex leads to all lower ones by action 1, the lowest to all; action 3 is
+/// that of one transition. Of many: each vertex leads to itself by 64 actions.
+pub fn follower_calls() -> Vec<(&'static str, FollowerCall)> {
+    let dense = dense(step(127, 3, 1), 0).chart;
+    let of_many = of_thousands(64).chart;
+    let full = u128::MAX;
+    [
+        ("restart", &dense, 0, Call::Restart),
+        ("taken small", &of_many, 1 << 127, Call::Event(64)),
+        ("taken small to full", &dense, 1 << 1, Call::Event(1)),
+        ("taken full", &dense, full, Call::Event(1)),
+        ("taken full to small", &dense, full, Call::Event(3)),
+        ("taken full of many", &of_many, full, Call::Event(64)),
+        ("not possible small", &of_many, 1 << 127, Call::Event(65)),
+        ("not possible full", &of_many, full, Call::Event(65)),
+    ]
+    .map(|(name, chart, set, call)| {
+        let (chart, state) = (chart.clone(), set.to_le_bytes());
+        (name, FollowerCall { chart, state, call })
+    })
+    .to_vec()
 }

@@ -3,6 +3,7 @@
 use oracle::gen::Yard;
 use oracle::plain::{Chart, Transition};
 use oracle::{fast, gen, plain, Answer};
+use std::thread;
 
 /// Document 01's file G.
 pub fn g() -> Yard {
@@ -62,4 +63,11 @@ pub fn first_body(file: &[u8]) -> &[u8] {
     };
     let body = rest.get(2..).unwrap_or(&[]);
     &body[..body.len().min(u16::from_le_bytes(*length).into())]
+}
+
+/// What calls answer in so many KiB of stack. The thread's own needs are among
+/// them, so the calls have somewhat less.
+pub fn in_a_stack<T: Send + 'static>(kib: usize, calls: impl FnOnce() -> T + Send + 'static) -> T {
+    let thread = thread::Builder::new().stack_size(kib * 1024).spawn(calls);
+    thread.expect("a thread").join().expect("answers")
 }

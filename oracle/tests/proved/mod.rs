@@ -17,6 +17,14 @@ extern "C" {
         standing: *mut u8,
         standing_len: usize,
     ) -> Answer;
+    fn seq_restart(chart: *const u8, chart_len: usize, state: *mut u8, state_len: usize) -> Answer;
+    fn seq_event(
+        chart: *const u8,
+        chart_len: usize,
+        state: *mut u8,
+        state_len: usize,
+        action: u8,
+    ) -> Answer;
 }
 
 #[cfg(library)]
@@ -48,6 +56,26 @@ pub fn remove(chart: &[u8], labels: &[u8], vertex: u64, level: u64, standing: &m
     }
 }
 
+#[cfg(library)]
+pub fn restart(chart: &[u8], state: &mut [u8]) -> Answer {
+    // SAFETY: as above; it writes to no bytes but those of `state`.
+    unsafe { seq_restart(chart.as_ptr(), chart.len(), state.as_mut_ptr(), state.len()) }
+}
+
+#[cfg(library)]
+pub fn event(chart: &[u8], state: &mut [u8], action: u8) -> Answer {
+    // SAFETY: as for a restart.
+    unsafe {
+        seq_event(
+            chart.as_ptr(),
+            chart.len(),
+            state.as_mut_ptr(),
+            state.len(),
+            action,
+        )
+    }
+}
+
 #[cfg(not(library))]
 pub fn check(_: &[u8]) -> Answer {
     panic!("{MISSING}")
@@ -60,6 +88,16 @@ pub fn write_chart(_: &[u8], _: &mut [u8]) -> Answer {
 
 #[cfg(not(library))]
 pub fn remove(_: &[u8], _: &[u8], _: u64, _: u64, _: &mut [u8]) -> Answer {
+    panic!("{MISSING}")
+}
+
+#[cfg(not(library))]
+pub fn restart(_: &[u8], _: &mut [u8]) -> Answer {
+    panic!("{MISSING}")
+}
+
+#[cfg(not(library))]
+pub fn event(_: &[u8], _: &mut [u8], _: u8) -> Answer {
     panic!("{MISSING}")
 }
 

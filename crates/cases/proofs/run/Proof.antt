@@ -7,11 +7,11 @@ use Rattle.cases.proofs.run.Statement.{statement}
 use Rattle.cases.proofs.run.Tie as tie
 
 abbrev Inv-loop : tie.InvT-loop
-Inv-loop table bytes₀ standing₀ state₀ at₀ bytes standing state at =
-    (length bytes ≡ length bytes₀) × (length standing ≡ length standing₀)
+Inv-loop table bytes₀ lent₀ state₀ at₀ bytes lent state at =
+    (length bytes ≡ length bytes₀) × (length lent ≡ length lent₀)
 
 abbrev μ-loop : tie.MeasureT-loop
-μ-loop table bytes₀ standing₀ state₀ at₀ bytes standing state at = length table - at
+μ-loop table bytes₀ lent₀ state₀ at₀ bytes lent state at = length table - at
 
 loop-holds : tie.Need-loop-holds Inv-loop μ-loop
 loop-holds c = search needs

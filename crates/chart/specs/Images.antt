@@ -1,0 +1,58 @@
+-- Where an action leads from a set of vertices, and which actions the set offers.
+use Prim.Native.Nat.{ℕ, _≤_, _<_}
+use mathlib.Core.Path.{_≡_}
+use mathlib.Core.Logic.{_↔_}
+use mathlib.Core.List.{List}
+use lib.Dec.{eqb}
+use lib.ListN.{length, getD}
+use Rattle.bits.specs.Bits.{listFrom}
+use Rattle.bits.specs.declared.sets.Set.{Set}
+use Rattle.bits.specs.Sets.{Has}
+use Rattle.report.specs.declared.Stage.the-variants.{Passed}
+use Rattle.chart.specs.Bodies.{countOf, fromOf, actionOf}
+use Rattle.chart.specs.Checks.{checkOf}
+use Rattle.chart.specs.Steps.{ActsOf}
+
+-- a transition with the action a leads from a vertex of the set to w
+abbrev pub Image : List ℕ → Set → ℕ → ℕ → Type 0
+Image b s a w = (u : ℕ) × Has s u × ActsOf b u a w
+
+-- u has a transition with the action a
+pub record ActsFrom (b : List ℕ) (u a : ℕ) : Type 0 where
+  pub to : ℕ
+  pub acts : ActsOf b u a to
+
+-- a vertex of the set has one
+pub record Offers (b : List ℕ) (s : Set) (a : ℕ) : Type 0 where
+  pub from : ℕ
+  pub member : Has s from
+  pub acts : ActsFrom b from a
+
+-- 256 marks: 1 for each number with P, 0 for the others
+pub record Marks (P : ℕ → Type 0) (marks : List ℕ) : Type 0 where
+  pub long : length marks ≡ 256
+  pub low : (a : ℕ) → getD marks a 0 ≤ 1
+  pub exactly : (a : ℕ) → a < 256 → (getD marks a 0 ≡ 1) ↔ P a
+
+-- the numbers with P, which are below 256, have come to be marked; all else stays
+pub record MarksMore (P : ℕ → Type 0) (before after : List ℕ) : Type 0 where
+  pub long : length after ≡ length before
+  pub marked : (a : ℕ) → a < 256 → P a → getD after a 0 ≡ 1
+  pub others : (a : ℕ) → ¬ P a → getD after a 0 ≡ getD before a 0
+
+-- the numbers that are marked, ascending
+abbrev pub markedOf : List ℕ → List ℕ
+markedOf marks = listFrom (λ a. eqb (getD marks a 0) 1) 0 256
+
+-- the transitions from one place up to another, of a body that passes, all leave u
+pub record Stretch (b : List ℕ) (u at end : ℕ) : Type 0 where
+  pub passed : checkOf b ≡ Passed
+  pub order : at ≤ end
+  pub within : end ≤ countOf b
+  pub leaves : (k : ℕ) → at ≤ k → k < end → fromOf b k ≡ u
+
+-- r is a place from `at` up to `end`, and the actions before it are lower than a
+pub record Lower (b : List ℕ) (a at end r : ℕ) : Type 0 where
+  pub from : at ≤ r
+  pub to : r ≤ end
+  pub below : (k : ℕ) → at ≤ k → k < r → actionOf b k < a

@@ -1,0 +1,104 @@
+/* A small panel: `panel FILE` has a yard file checked, restarts over its chart and follows the actions
+ * whose numbers come in on standard input. For each it says whether it is taken, whether the end is
+ * reached, and how many actions are offered next.
+ *
+ * Exit status: 0; 1 where something is refused; 2 where the file cannot be read. */
+#include "sequence.h"
+
+#include <ctype.h>
+#include <inttypes.h>
+#include <stdio.h>
+
+/* Room for a byte too many, so that a file that is too long is refused. */
+static uint8_t file[SEQ_LONGEST_FILE + 1];
+
+/* What is wrong, by the number of the refusal. */
+static const char *cause(uint64_t n)
+{
+    if (n <= 4)
+        return "the file did not arrive as it was made";
+    if (n <= 12)
+        return "the order of work, record 1, is malformed";
+    if (n <= 21)
+        return "the chart, record 2, is malformed";
+    if (n <= 35)
+        return "the chart's loops are not what the labels, record 3, say";
+    if (n <= 45)
+        return "by record 4 the chart does not do what the order of work says";
+    return "the follower's state is not what the call before has left";
+}
+
+static int refused(const char *what, seq_numbers said)
+{
+    printf("%s: refused %" PRIu64 " %" PRIu64 " %" PRIu64 " %" PRIu64 ": %s (docs/REFUSALS.md)\n", what, said.n, said.p,
+           said.q, said.r, cause(said.n));
+    return 1;
+}
+
+static void print_followed(seq_numbers said)
+{
+    printf("%s, end %s, offered %" PRIu64 "\n", said.p ? "taken" : "not possible", said.q ? "yes" : "no", said.r);
+}
+
+/* Where the next word of the input is no action, and where there is none. */
+enum { NO_ACTION = 256, NO_WORD };
+
+static int next_action(void)
+{
+    int action = 0;
+    int c = getchar();
+    while (isspace(c))
+        c = getchar();
+    if (c == EOF)
+        return NO_WORD;
+    for (; c != EOF && !isspace(c); c = getchar()) {
+        action = isdigit(c) ? 10 * action + (c - '0') : NO_ACTION;
+        if (action > NO_ACTION)
+            action = NO_ACTION;
+    }
+    return action;
+}
+
+static int follow(const uint8_t *chart, size_t chart_len)
+{
+    uint8_t state[SEQ_STATE];
+    seq_numbers said = seq_restart(chart, chart_len, state, sizeof state);
+    if (said.n != 0)
+        return refused("restart", said);
+    printf("restart: ");
+    print_followed(said);
+    for (int action = next_action(); action != NO_WORD; action = next_action()) {
+        if (action == NO_ACTION) {
+            printf("no action: an action is a number from 0 to 255\n");
+            continue;
+        }
+        said = seq_event(chart, chart_len, state, sizeof state, (uint8_t)action);
+        if (said.n != 0)
+            return refused("event", said);
+        printf("event %d: ", action);
+        print_followed(said);
+    }
+    return 0;
+}
+
+int main(int count, char **words)
+{
+    if (count != 2) {
+        fprintf(stderr, "usage: panel FILE\n");
+        return 2;
+    }
+    FILE *in = fopen(words[1], "rb");
+    size_t len = in ? fread(file, 1, sizeof file, in) : 0;
+    if (!in || ferror(in)) {
+        fprintf(stderr, "panel: %s cannot be read\n", words[1]);
+        return 2;
+    }
+    fclose(in);
+    seq_numbers said = seq_check(file, len);
+    if (said.n != 0)
+        return refused(words[1], said);
+    printf("accepted: vertices %" PRIu64 ", transitions %" PRIu64 ", loops %" PRIu64 "\n", said.p, said.q, said.r);
+    /* A record is the length of its body in two bytes, its kind in two, and the body; the chart is in the second. */
+    const uint8_t *second = file + 4 + file[0] + 256 * file[1];
+    return follow(second + 4, second[0] + 256u * second[1]);
+}

@@ -1,0 +1,58 @@
+//! The proved library's follower against the plain one and the published rules'.
+mod common;
+mod followers;
+mod proved;
+use common::in_a_stack;
+use followers::Follower;
+use oracle::gen::lists::{self, Call};
+use oracle::gen::{worst, Rng};
+use oracle::{NOT_POSSIBLE, TAKEN};
+use std::collections::BTreeSet;
+
+const LIBRARY: Follower = Follower {
+    restart: proved::restart,
+    event: proved::event,
+    write_chart: proved::write_chart,
+};
+
+#[test]
+fn lists_against_the_rules() {
+    followers::lists_against_the_rules(LIBRARY, 40_000_000);
+}
+
+#[test]
+fn any_bytes() {
+    followers::any_bytes(LIBRARY, 41_000_000);
+}
+
+#[test]
+fn all_of_a_small_chart() {
+    followers::all_of_a_small_chart(LIBRARY);
+}
+
+#[test]
+fn at_the_limits() {
+    followers::at_the_limits(LIBRARY);
+}
+
+#[test]
+fn starred_run() {
+    followers::starred_run(LIBRARY);
+}
+
+#[test]
+fn in_a_stack_of_32_kib() {
+    let mut seen = BTreeSet::new();
+    for (_, yard) in worst::all() {
+        let list = lists::events(&mut Rng::new(7), &yard, 100);
+        seen.extend(in_a_stack(32, move || {
+            let mut state = [0; 16];
+            let calls = [Call::Restart].into_iter().chain(list);
+            let answers = calls.map(|call| LIBRARY.answer(call, &yard.chart, &mut state));
+            answers
+                .map(|answer| (answer.n, answer.p))
+                .collect::<Vec<_>>()
+        }));
+    }
+    assert!(seen.into_iter().eq([(0, NOT_POSSIBLE), (0, TAKEN)]));
+}
