@@ -57,8 +57,14 @@ returns-4 c =
     let passed = sym (c .before .before .before .before .before .before .before .check .ensures)
     ∙ c .before .before .before .before .before .enum-told .given .1 in
     let n = c .before .before .before .before .count .ensures .0 in
-    let F : Fits (c .before .before .before .before .before .before .before .before .before .before .before .args .chart .now) (c .before .before .before .before .before .before .before .before .before .before .before .args .labels .now) (c .before .before .before .before .before .before .before .before .before .before .before .args .standing .now) = record { formed = well-formed _ passed; each = c .before .before .before .if1 .left ∙ n; marked = c .before .before .standing-fits .ensures _ n .0 (not-false _ (c .before .if2 .left)) } in
-    let B : Bytes (c .before .before .before .before .before .before .before .before .before .before .before .args .labels .now) = λ k. omega (arith, c .before .before .before .before .before .before .before .before .before .shared-slice-known2 .given k) in
+    let given = c .before .before .before .before .before .before .before .before .before .before .before .args in
+    let F : Fits (given .chart .now) (given .labels .now) (given .standing .now) = record {
+      formed = well-formed _ passed;
+      each = c .before .before .before .if1 .left ∙ n;
+      marked = c .before .before .standing-fits .ensures _ n .0 (not-false _ (c .before .if2 .left));
+    } in
+    let B : Bytes (given .labels .now) =
+    λ k. omega (arith, c .before .before .before .before .before .before .before .before .before .shared-slice-known2 .given k) in
     let (a, e, r) = c .ruled .ensures in
     e ∙ sym (removal-ruled _ _ _ _ _ B F r)
 
