@@ -1,5 +1,6 @@
 //! The fast follower, lent and by value, against the plain one and the published
 //! rules'.
+#[macro_use]
 mod common;
 mod followers;
 use followers::{Follower, FAST};
@@ -33,33 +34,16 @@ fn event(chart: &[u8], state: &mut [u8], action: u8) -> Answer {
     answer
 }
 
-#[test]
-fn lists_against_the_rules() {
-    followers::lists_against_the_rules(FAST, 7_000_000);
+tests_of! { followers:
+    lists_against_the_rules(FAST, 7_000_000);
+    another_action_is_found_out(FAST, 8_000_000);
+    any_bytes(FAST, 9_000_000);
+    all_of_a_small_chart(FAST);
+    at_the_limits(FAST);
 }
 
 #[test]
-fn another_action_is_found_out() {
-    followers::another_action_is_found_out(FAST, 8_000_000);
-}
-
-#[test]
-fn any_bytes() {
-    followers::any_bytes(FAST, 9_000_000);
-}
-
-#[test]
-fn any_bytes_by_value() {
+fn by_value() {
     followers::any_bytes(BY_VALUE, 9_500_000);
-}
-
-#[test]
-fn all_of_a_small_chart() {
-    followers::all_of_a_small_chart(FAST);
     followers::all_of_a_small_chart(BY_VALUE);
-}
-
-#[test]
-fn at_the_limits() {
-    followers::at_the_limits(FAST);
 }

@@ -1,4 +1,5 @@
 //! The proved library's follower against the plain one and the published rules'.
+#[macro_use]
 mod common;
 mod followers;
 mod proved;
@@ -15,29 +16,12 @@ const LIBRARY: Follower = Follower {
     write_chart: proved::write_chart,
 };
 
-#[test]
-fn lists_against_the_rules() {
-    followers::lists_against_the_rules(LIBRARY, 40_000_000);
-}
-
-#[test]
-fn any_bytes() {
-    followers::any_bytes(LIBRARY, 41_000_000);
-}
-
-#[test]
-fn all_of_a_small_chart() {
-    followers::all_of_a_small_chart(LIBRARY);
-}
-
-#[test]
-fn at_the_limits() {
-    followers::at_the_limits(LIBRARY);
-}
-
-#[test]
-fn starred_run() {
-    followers::starred_run(LIBRARY);
+tests_of! { followers:
+    lists_against_the_rules(LIBRARY, 40_000_000);
+    any_bytes(LIBRARY, 41_000_000);
+    all_of_a_small_chart(LIBRARY);
+    at_the_limits(LIBRARY);
+    starred_run(LIBRARY);
 }
 
 #[test]

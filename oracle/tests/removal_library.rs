@@ -1,5 +1,6 @@
 //! The proved library's removal against the plain one and the plain set of
 //! loops.
+#[macro_use]
 mod common;
 mod proved;
 mod removals;
@@ -8,39 +9,14 @@ use oracle::gen::{lists, worst, Rng};
 use proved::remove;
 use std::collections::BTreeSet;
 
-#[test]
-fn lists_against_the_plain_set() {
-    removals::lists_against_the_plain_set(remove, 30_000_000);
-}
-
-#[test]
-fn orders_of_all_loops() {
-    removals::orders_of_all_loops(remove, 31_000_000);
-}
-
-#[test]
-fn any_bytes() {
-    removals::any_bytes(remove, 32_000_000);
-}
-
-#[test]
-fn all_of_a_small_chart() {
-    removals::all_of_a_small_chart(remove);
-}
-
-#[test]
-fn loop_inside_a_loop() {
-    removals::loop_inside_a_loop(remove);
-}
-
-#[test]
-fn at_the_limits() {
-    removals::at_the_limits(remove);
-}
-
-#[test]
-fn worst_files() {
-    removals::worst_files(remove);
+tests_of! { removals:
+    lists_against_the_plain_set(remove, 30_000_000);
+    orders_of_all_loops(remove, 31_000_000);
+    any_bytes(remove, 32_000_000);
+    all_of_a_small_chart(remove);
+    loop_inside_a_loop(remove);
+    at_the_limits(remove);
+    worst_files(remove);
 }
 
 #[test]

@@ -47,7 +47,9 @@ pub matched-none : (into acting body : List ℕ) (a k : ℕ) → On 0 k ↔ Matc
 matched-none into acting body a k = ((λ on. absurd (zero-off k on)), (λ (j, p, q, M). absurd (omega arith)))
 
 -- each pair of a row that is in no set passes
-pub suspects-clear : {into acting words table body e relation : List ℕ} {set : Set} → Sought into acting words table body e relation → Members (InFirst table 128) set → (u : ℕ) → ¬ Has set u → (v : ℕ) → Related relation u v → Passes e body relation u v
+pub suspects-clear : {into acting words table body e relation : List ℕ} {set : Set}
+    → Sought into acting words table body e relation → Members (InFirst table 128) set → (u : ℕ) → ¬ Has set u
+    → (v : ℕ) → Related relation u v → Passes e body relation u v
 suspects-clear {relation = relation} S M u n v r = S .others u v r (λ h. n (M .exactly u (h .below) .1 (v, related-column relation u v r, h)))
 
 -- a transition that is not alone has a step that matches it

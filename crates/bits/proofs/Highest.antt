@@ -17,7 +17,9 @@ pub record HighestTo (bytes : List ℕ) (i top : ℕ) : Type 0 where
 pub highest-more : {bytes : List ℕ} {i top r : ℕ} → HighestTo bytes i top → r ≡ max top (getD bytes i 0) → HighestTo bytes (i + 1) r
 highest-more {bytes} {i} {top} {r} H e = record {
   above = below-more (λ (j : ℕ). getD bytes j 0 ≤ r) i (λ j h. let k = H .above j h in omega (arith, e, k)) (omega (arith, e));
-  is-byte = λ some. by-cases (decLt top (getD bytes i 0)) (λ g. (i, omega arith, omega (arith, e, g))) (λ g. let (j, l, q) = H .is-byte (omega (arith, e, g, some)) in (j, omega arith, omega (arith, e, g, q)));
+  is-byte =
+      λ some. by-cases (decLt top (getD bytes i 0)) (λ g. (i, omega arith, omega (arith, e, g)))
+      (λ g. let (j, l, q) = H .is-byte (omega (arith, e, g, some)) in (j, omega arith, omega (arith, e, g, q)));
 }
 
 pub highest-all : {bytes : List ℕ} {i top : ℕ} → HighestTo bytes i top → i ≡ length bytes → HighestByte bytes top

@@ -13,7 +13,7 @@ use Rattle.bits.specs.Packed.{fourAt, Packed}
 use Rattle.bits.proofs.Words.{shifted}
 
 -- the bits of x, and those of y above them
-stacked-low : (x y j d : ℕ) → On (x + 2 ^ (j + suc d) * y) j ↔ On x j
+pub stacked-low : (x y j d : ℕ) → On (x + 2 ^ (j + suc d) * y) j ↔ On x j
 stacked-low x y j d =
     let e : 2 ^ (j + suc d) * y ≡ 2 ^ j * (2 ^ suc d * y) = ap (λ (n : ℕ). n * y) (pow-add 2 j (suc d)) ∙ mul-assoc (2 ^ j) (2 ^ suc d) y in
     let f : 2 ^ suc d * y ≡ 2 * (2 ^ d * y) = ap (λ (n : ℕ). n * y) (pow-suc 2 d ∙ mul-comm (2 ^ d) 2) ∙ mul-assoc 2 (2 ^ d) y in
@@ -23,7 +23,7 @@ stacked-low x y j d =
     even : (a z : ℕ) {n : ℕ} → n ≡ a + 2 * z → (n % 2 ≡ 1) ↔ (a % 2 ≡ 1)
     even a z e = ((λ h. omega arith), (λ h. omega arith))
 
-stacked-high : (x y k i : ℕ) → x < 2 ^ k → On (x + 2 ^ k * y) (k + i) ↔ On y i
+pub stacked-high : (x y k i : ℕ) → x < 2 ^ k → On (x + 2 ^ k * y) (k + i) ↔ On y i
 stacked-high x y k i l =
     let e : (x + 2 ^ k * y) / 2 ^ k ≡ y = add-mul-div-left x y (pow-pos k) ∙ ap (λ (n : ℕ). n + y) (div-eq-of-lt l) ∙ zero-plus y in
     let S = shifted (x + 2 ^ k * y) k i in

@@ -32,7 +32,8 @@ found {left} {u} E n F = by-cases (decLt u 128)
     (λ h. F .holds h)
     (λ h. absurd (true≢false (sym (E .1 (λ w g. F .before w (omega arith) (omega (arith, h, g .below)) g)) ∙ not-true _ n)))
 
-pub visited : {s left fewer : Set} {u : ℕ} → ((x : ℕ) → Has left x → Has s x) → Has left u → ((y : ℕ) → Has fewer y ↔ (Has left y × (y ≢ u)))
+pub visited : {s left fewer : Set} {u : ℕ} → ((x : ℕ) → Has left x → Has s x) → Has left u
+    → ((y : ℕ) → Has fewer y ↔ (Has left y × (y ≢ u)))
     → Visit s left u fewer
 visited w h W = record { within = w; has = h; rest = W }
 
@@ -90,11 +91,13 @@ writing-more {s} {left} {fewer} {v} {r} {bytes} T W low I = record {
         rw (there (w / 8) n) ((λ on. let (p, f) = I .exactly w h .0 on in (p, k .0 f)), (λ (p, f). I .exactly w h .1 (p, k .1 f)))
 
 pub writing-all : {s left : Set} {bytes : List ℕ} → Empty left → Writing s left bytes → BytesOf s bytes
-writing-all E I = record { long = I .long; below = I .below; exactly = λ w h. ((λ on. I .exactly w h .0 on .0), (λ p. I .exactly w h .1 (p, E w))) }
+writing-all E I =
+    record { long = I .long; below = I .below; exactly = λ w h. ((λ on. I .exactly w h .0 on .0), (λ p. I .exactly w h .1 (p, E w))) }
 
 -- one answer
 pub bytes-one : {s : Set} {r t : List ℕ} → BytesOf s r → BytesOf s t → r ≡ t
-bytes-one {s} {r} {t} R T = ext-getD 0 r t (R .long ∙ sym (T .long)) (λ k h. same-word (getD r k 0) (getD t k 0) (λ j. (bit R T k h j, bit T R k h j)))
+bytes-one {s} {r} {t} R T =
+    ext-getD 0 r t (R .long ∙ sym (T .long)) (λ k h. same-word (getD r k 0) (getD t k 0) (λ j. (bit R T k h j, bit T R k h j)))
   where
     bit : {x y : List ℕ} → BytesOf s x → BytesOf s y → (k : ℕ) → k < length r → (j : ℕ) → On (getD x k 0) j → On (getD y k 0) j
     bit {x} {y} X Y k h j on =

@@ -25,14 +25,16 @@ ViaBelow body P u i w = (e : Via body P u w) × (e .at < i)
 module _ {body : List ℕ} {P : ℕ → Type 0} {u : ℕ} where
   -- none is before transition i
   pub via-nothing : {i : ℕ} {s : Set} → ((k : ℕ) → k < i → fromOf body k ≡ u → ¬ P k) → s ≡ emptySet → Members (ViaBelow body P u i) s
-  via-nothing f e = record { exactly = λ w h. ((λ g. absurd (none w (rw e at g))), (λ (k, l). absurd (f (k .at) l (k .leaves) (k .holds)))) }
+  via-nothing f e =
+      record { exactly = λ w h. ((λ g. absurd (none w (rw e at g))), (λ (k, l). absurd (f (k .at) l (k .leaves) (k .holds)))) }
 
   pub via-none : {i : ℕ} {s : Set} → Split (FromBelow body u) (countOf body) i → s ≡ emptySet → Members (ViaBelow body P u i) s
   via-none S = via-nothing (λ k l e p. omega (arith, S .below k l .is, e))
 
   -- transition i of u comes in where it has the property
   pub via-more : {i t : ℕ} {flag : Bool} {s r : Set} → i < countOf body → fromOf body i ≡ u → toOf body i ≡ t → Decides flag (P i)
-      → ((y : ℕ) → Has r y ↔ (Has s y ⊎ ((flag ≡ true) × (y ≡ t)))) → Members (ViaBelow body P u i) s → Members (ViaBelow body P u (i + 1)) r
+      → ((y : ℕ) → Has r y ↔ (Has s y ⊎ ((flag ≡ true) × (y ≡ t)))) → Members (ViaBelow body P u i) s
+      → Members (ViaBelow body P u (i + 1)) r
   via-more {i} {t} {flag} {s} {r} h e k D W M = record { exactly = λ w l. (to w l, back w l) }
     where
       to : (w : ℕ) → w < 128 → Has r w → ViaBelow body P u (i + 1) w

@@ -33,7 +33,8 @@ pub decides-acts : {body : List ℕ} {i b : ℕ} (a : ℕ) → b ≡ actionOf bo
 decides-acts {b = b} a e = decides-same ((λ p. record { is = sym e ∙ p }), (λ q. e ∙ q .is)) (decides-eqb b a)
 
 -- THE ACTIONS of one vertex do not fall
-actions-sorted : (b : List ℕ) → Bytes b → WellFormed b → (i j : ℕ) → i ≤ j → j < countOf b → fromOf b i ≡ fromOf b j → actionOf b i ≤ actionOf b j
+actions-sorted : (b : List ℕ) → Bytes b → WellFormed b → (i j : ℕ) → i ≤ j → j < countOf b → fromOf b i ≡ fromOf b j
+    → actionOf b i ≤ actionOf b j
 actions-sorted b B W i j l h e =
     ⊎-elim (λ z. subst (λ (x : ℕ). actionOf b i ≤ actionOf b x) z (le-refl _))
     (λ m. let k = W .ascending i j m h in omega (arith, k, e, B (4 * j + 4 + 2)))
@@ -48,7 +49,9 @@ module _ {b : List ℕ} {u at end a : ℕ} (B : Bytes b) (S : Stretch b u at end
     from = omega (arith, L .from);
     to = h;
     below = λ k p q. by-cases (decLt k i) (L .below k p) (λ g.
-        let s = actions-sorted b B (well-formed b (S .passed)) k (i + 7) (omega (arith, q)) (omega (arith, h, S .within)) (S .leaves k p (omega (arith, q, h)) ∙ sym (S .leaves (i + 7) (omega (arith, L .from)) (omega (arith, h)))) in
+        let s = actions-sorted b B (well-formed b (S .passed)) k (i + 7) (omega (arith, q))
+        (omega (arith, h, S .within)) (S .leaves k p (omega (arith, q, h))
+        ∙ sym (S .leaves (i + 7) (omega (arith, L .from)) (omega (arith, h)))) in
         omega (arith, s, e, l));
   }
 
@@ -65,7 +68,8 @@ module _ {b : List ℕ} {u at end a : ℕ} (B : Bytes b) (S : Stretch b u at end
       (λ g. omega (arith, T .below k g .is, z))
       (λ g. omega (arith, L .below k (omega (arith, g)) p, y .is))
 
-pub row-stretch : {b begins : List ℕ} {u : ℕ} → checkOf b ≡ stage.Passed → Begins b begins → u < 128 → Stretch b u (getD begins u 0) (getD begins (u + 1) 0)
+pub row-stretch : {b begins : List ℕ} {u : ℕ} → checkOf b ≡ stage.Passed → Begins b begins → u < 128
+    → Stretch b u (getD begins u 0) (getD begins (u + 1) 0)
 row-stretch {u = u} C R h = record {
   passed = C;
   order = begin-order R u h;
@@ -84,22 +88,40 @@ module _ {b : List ℕ} {s : Set} {a : ℕ} where
   pub image-none : {r : Set} → r ≡ emptySet → Members (ImageTo b s s a) r
   image-none e = record { exactly = λ w h. ((λ g. absurd (none w (rw e at g))), (λ g. absurd (g .past (g .member)))) }
 
-  pub image-more : {left fewer t q r : Set} {u : ℕ} → Visit s left u fewer → Members (ImageTo b s left a) t → Members (ActsOf b u a) q → Union t q r
+  pub image-more : {left fewer t q r : Set} {u : ℕ} → Visit s left u fewer → Members (ImageTo b s left a) t
+      → Members (ActsOf b u a) q → Union t q r
       → Members (ImageTo b s fewer a) r
   image-more {left} {fewer} {u = u} T M Q U = record {
     exactly = λ w h. (
       (λ g. ⊎-elim
-          (λ p. let e = M .exactly w h .0 p in record { from = e .from; member = e .member; past = λ z. e .past (T .rest _ .0 z .0); acts = e .acts })
+          (λ p. let e = M .exactly w h .0 p in record {
+            from = e .from;
+            member = e .member;
+            past = λ z.
+                e .past (T .rest _ .0 z .0);
+            acts = e .acts;
+          })
           (λ p. record { from = u; member = T .within u (T .has); past = λ z. T .rest u .0 z .1 refl; acts = Q .exactly w h .0 p })
           (U w .0 g)),
       (λ e. U w .1 (by-cases (ℕ-discrete (e .from) u)
           (λ z. inr (Q .exactly w h .1 (subst (λ (x : ℕ). ActsOf b x a w) z (e .acts))))
-          (λ n. inl (M .exactly w h .1 (record { from = e .from; member = e .member; past = λ z. e .past (T .rest _ .1 (z, n)); acts = e .acts }))))),
+          (λ n. inl (M .exactly w h .1 (record {
+            from = e .from;
+            member = e .member;
+            past = λ z. e .past (T .rest _ .1 (z, n));
+            acts = e .acts;
+          }))))),
     );
   }
 
   pub image-all : {left r : Set} → Empty left → Members (ImageTo b s left a) r → Members (Image b s a) r
-  image-all E M = record { exactly = λ w h. ((λ g. let e = M .exactly w h .0 g in (e .from, e .member, e .acts)), (λ (u, m, k). M .exactly w h .1 (record { from = u; member = m; past = E u; acts = k }))) }
+  image-all E M =
+      record {
+        exactly = λ w h. (
+          (λ g. let e = M .exactly w h .0 g in (e .from, e .member, e .acts)),
+          (λ (u, m, k). M .exactly w h .1 (record { from = u; member = m; past = E u; acts = k })),
+        );
+      }
 
 -- THE MARKS of one vertex's actions, before transition i
 abbrev pub ActsBelow : List ℕ → ℕ → ℕ → ℕ → Type 0
@@ -107,7 +129,13 @@ ActsBelow b u i a = (e : ActsFrom b u a) × (e .acts .at < i)
 
 module _ {b : List ℕ} {u : ℕ} where
   pub marks-none : {i : ℕ} {m : List ℕ} → Split (FromBelow b u) (countOf b) i → MarksMore (ActsBelow b u i) m m
-  marks-none S = record { long = refl; marked = λ a h (e, l). absurd (omega (arith, S .below (e .acts .at) l .is, e .acts .leaves)); others = λ a n. refl }
+  marks-none S =
+      record {
+        long = refl;
+        marked = λ a h
+            (e, l). absurd (omega (arith, S .below (e .acts .at) l .is, e .acts .leaves));
+        others = λ a n. refl;
+      }
 
   pub marks-more : {i x : ℕ} {before after : List ℕ} → length before ≡ 256 → i < countOf b → fromOf b i ≡ u → x ≡ actionOf b i → x < 256
       → MarksMore (ActsBelow b u i) before after → MarksMore (ActsBelow b u (i + 1)) before (set after x 1)
@@ -117,7 +145,20 @@ module _ {b : List ℕ} {u : ℕ} where
         (λ z. here a z)
         (λ z. there a z ∙ M .marked a l (f, below a f g z));
     others = λ a n. by-cases (ℕ-discrete a x)
-        (λ z. absurd (n (record { to = _; acts = record { at = i; within = h; leaves = e; enters = refl; holds = record { is = sym k ∙ sym z } } }, omega arith)))
+        (λ z. absurd (n (
+          record {
+            to = _;
+            acts = record {
+              at = i;
+              within = h;
+              leaves = e;
+              enters = refl;
+              holds =
+                  record { is = sym k ∙ sym z };
+            };
+          },
+          omega arith,
+        )))
         (λ z. there a z ∙ M .others a (λ (f, g). n (f, omega (arith, g))));
   }
     where
@@ -132,12 +173,15 @@ module _ {b : List ℕ} {u : ℕ} where
           (λ z. absurd (n (sym (f .acts .holds .is) ∙ subst (λ (j : ℕ). actionOf b j ≡ x) (sym z) (sym k))))
           (λ z. omega (arith, g, z))
 
-  pub marks-all : {i end : ℕ} {before after : List ℕ} → Split (FromBelow b (u + 1)) (countOf b) end → end ≤ i → MarksMore (ActsBelow b u i) before after
+  pub marks-all : {i end : ℕ} {before after : List ℕ} → Split (FromBelow b (u + 1)) (countOf b) end → end ≤ i
+      → MarksMore (ActsBelow b u i) before after
       → MarksMore (ActsFrom b u) before after
   marks-all {i} S l M = record { long = M .long; marked = λ a h e. M .marked a h (e, early e); others = λ a n. M .others a (λ e. n (e .0)) }
     where
       early : {a : ℕ} (e : ActsFrom b u a) → e .acts .at < i
-      early e = by-cases (decLt (e .acts .at) i) (λ g. g) (λ g. absurd (S .above (e .acts .at) (omega (arith, g, l)) (e .acts .within) (record { is = omega (arith, e .acts .leaves) })))
+      early e =
+          by-cases (decLt (e .acts .at) i) (λ g. g) (λ g.
+          absurd (S .above (e .acts .at) (omega (arith, g, l)) (e .acts .within) (record { is = omega (arith, e .acts .leaves) })))
 
 -- has u a transition with the action a?
 acts-from? : (b : List ℕ) (u a : ℕ) → Dec (ActsFrom b u a)
@@ -156,9 +200,15 @@ pub record OffersTo (b : List ℕ) (s left : Set) (a : ℕ) : Type 0 where
 
 module _ {b : List ℕ} {s : Set} where
   pub offers-none : Marks (OffersTo b s s) (replicate 256 0)
-  offers-none = record { long = refl; low = λ a. omega (arith, blank 256 a); exactly = λ a h. ((λ e. absurd (omega (arith, e, blank 256 a))), (λ e. absurd (e .past (e .member)))) }
+  offers-none =
+      record {
+        long = refl;
+        low = λ a. omega (arith, blank 256 a);
+        exactly = λ a h. ((λ e. absurd (omega (arith, e, blank 256 a))), (λ e. absurd (e .past (e .member))));
+      }
 
-  pub offers-more : {left fewer : Set} {u : ℕ} {before after : List ℕ} → Visit s left u fewer → Marks (OffersTo b s left) before → MarksMore (ActsFrom b u) before after
+  pub offers-more : {left fewer : Set} {u : ℕ} {before after : List ℕ} → Visit s left u fewer
+      → Marks (OffersTo b s left) before → MarksMore (ActsFrom b u) before after
       → Marks (OffersTo b s fewer) after
   offers-more {left} {fewer} {u} {before} {after} T M N = record {
     long = N .long ∙ M .long;
@@ -167,20 +217,38 @@ module _ {b : List ℕ} {s : Set} where
   }
     where
       low : (a : ℕ) → getD after a 0 ≤ 1
-      low a = by-cases (acts-from? b u a) (λ e. by-cases (decLt a 256) (λ h. omega (arith, N .marked a h e)) (λ h. omega (arith, List·getD-eq-default after 0 {n = a} (omega (arith, N .long, M .long, h))))) (λ e. omega (arith, N .others a e, M .low a))
+      low a =
+          by-cases (acts-from? b u a) (λ e. by-cases (decLt a 256) (λ h. omega (arith, N .marked a h e))
+          (λ h. omega (arith, List·getD-eq-default after 0 {n = a} (omega (arith, N .long, M .long, h)))))
+          (λ e. omega (arith, N .others a e, M .low a))
 
       to : (a : ℕ) → a < 256 → getD after a 0 ≡ 1 → OffersTo b s fewer a
       to a h e = by-cases (acts-from? b u a)
           (λ k. record { from = u; member = T .within u (T .has); past = λ z. T .rest u .0 z .1 refl; acts = k })
-          (λ k. let o = M .exactly a h .0 (sym (N .others a k) ∙ e) in record { from = o .from; member = o .member; past = λ z. o .past (T .rest _ .0 z .0); acts = o .acts })
+          (λ k. let o = M .exactly a h .0 (sym (N .others a k) ∙ e) in
+          record { from = o .from; member = o .member; past = λ z. o .past (T .rest _ .0 z .0); acts = o .acts })
 
       from : (a : ℕ) → a < 256 → OffersTo b s fewer a → getD after a 0 ≡ 1
       from a h o = by-cases (acts-from? b u a)
           (λ k. N .marked a h k)
-          (λ k. N .others a k ∙ M .exactly a h .1 (record { from = o .from; member = o .member; past = λ z. o .past (T .rest _ .1 (z, λ y. k (subst (λ (x : ℕ). ActsFrom b x a) y (o .acts)))); acts = o .acts }))
+          (λ k. N .others a k ∙ M .exactly a
+          h .1 (record {
+            from = o .from;
+            member = o .member;
+            past = λ z. o .past (T .rest _ .1 (z, λ y. k (subst (λ (x : ℕ). ActsFrom b x a) y (o .acts))));
+            acts = o .acts;
+          }))
 
   pub offers-all : {left : Set} {marks : List ℕ} → Empty left → Marks (OffersTo b s left) marks → Marks (Offers b s) marks
-  offers-all E M = record { long = M .long; low = M .low; exactly = λ a h. ((λ g. let e = M .exactly a h .0 g in record { from = e .from; member = e .member; acts = e .acts }), (λ o. M .exactly a h .1 (record { from = o .from; member = o .member; past = E _; acts = o .acts }))) }
+  offers-all E M =
+      record {
+        long = M .long;
+        low = M .low;
+        exactly = λ a h. (
+          (λ g. let e = M .exactly a h .0 g in record { from = e .from; member = e .member; acts = e .acts }),
+          (λ o. M .exactly a h .1 (record { from = o .from; member = o .member; past = E _; acts = o .acts })),
+        );
+      }
 
 -- HOW MANY ARE MARKED: of those from i on
 pub count-more : (p : ℕ → Bool) {n i : ℕ} {b : Bool} → i < n → b ≡ p i
@@ -190,7 +258,8 @@ count-more p {n} {i} {b} h e =
     let r : n - i ≡ suc (n - (i + 1)) = omega arith in
     rw (r, add-one i, e) (go (p i))
   where
-    go : (x : Bool) → length (cond x (i ∷ listFrom p (suc i) (n - suc i)) (listFrom p (suc i) (n - suc i))) ≡ cond x 1 0 + length (listFrom p (suc i) (n - suc i))
+    go : (x : Bool) → length (cond x (i ∷ listFrom p (suc i) (n - suc i)) (listFrom p (suc i) (n - suc i))) ≡ cond x
+        1 0 + length (listFrom p (suc i) (n - suc i))
     go true = omega arith
     go false = omega arith
 

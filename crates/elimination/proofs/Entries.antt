@@ -37,7 +37,11 @@ fits-test b standing n h e H = decides-same (to, from) (decides-and (decides-eqb
     to (p, q) = record { long = p ∙ e; marks = λ i g. omega (arith, H .above i, q) }
 
     from : StandingFits b standing → (length standing ≡ n) × (h ≤ 1)
-    from f = (f .long ∙ sym e, by-cases (ℕ-discrete h 0) (λ z. omega arith) (λ z. let (i, l, q) = H .is-byte (omega arith) in omega (arith, q, f .marks i (omega (arith, l, f .long)))))
+    from f = (
+      f .long ∙ sym e,
+      by-cases (ℕ-discrete h 0) (λ z. omega arith)
+          (λ z. let (i, l, q) = H .is-byte (omega arith) in omega (arith, q, f .marks i (omega (arith, l, f .long)))),
+    )
 
 -- where the standing entries of (v, l) lead: a level of 0 is that of branches
 module _ {b labels standing : List ℕ} {v l : ℕ} {s : Set} where
@@ -56,15 +60,27 @@ pub record Clearing (labels : List ℕ) (l from i : ℕ) (before after : List �
   pub above : (k : ℕ) → i ≤ k → getD after k 0 ≡ getD before k 0
 
 pub clearing-none : {labels : List ℕ} {l i : ℕ} {before : List ℕ} → Clearing labels l i i before before
-clearing-none = record { long = refl; gone = λ k p q. absurd (omega (arith, p, q)); kept = λ k p q. absurd (omega (arith, p, q)); under = λ k p. refl; above = λ k p. refl }
+clearing-none =
+    record {
+      long = refl;
+      gone = λ k p q. absurd (omega (arith, p, q));
+      kept = λ k p q. absurd (omega (arith, p, q));
+      under = λ k p. refl;
+      above = λ k p. refl;
+    }
 
-pub clearing-more : {labels : List ℕ} {l from i label x : ℕ} {before after : List ℕ} → Clearing labels l from i before after → from ≤ i → i < length before
-    → label ≡ getD labels i 0 → (label ≡ l → x ≡ 0) → (¬ (label ≡ l) → x ≡ getD after i 0) → Clearing labels l from (i + 1) before (set after i x)
+pub clearing-more : {labels : List ℕ} {l from i label x : ℕ} {before after : List ℕ}
+    → Clearing labels l from i before after → from ≤ i → i < length before
+    → label ≡ getD labels i 0 → (label ≡ l → x ≡ 0) → (¬ (label ≡ l) → x ≡ getD after i 0)
+    → Clearing labels l from (i + 1) before (set after i x)
 clearing-more {labels} {l} {from} {i} {label} {x} {before} {after} C o h e g f = record {
   long = length-set after i x ∙ C .long;
-  gone = λ k p q z. by-cases (ℕ-discrete k i) (λ m. here k m ∙ g (e ∙ subst (λ (j : ℕ). getD labels j 0 ≡ l) m z)) (λ n. there k n ∙ C .gone k p (omega (arith, q, n)) z);
+  gone =
+      λ k p q z. by-cases (ℕ-discrete k i) (λ m. here k m ∙ g (e ∙ subst (λ (j : ℕ). getD labels j 0 ≡ l) m z))
+      (λ n. there k n ∙ C .gone k p (omega (arith, q, n)) z);
   kept = λ k p q z. by-cases (ℕ-discrete k i)
-      (λ m. here k m ∙ f (λ y. z (subst (λ (j : ℕ). getD labels j 0 ≡ l) (sym m) (sym e ∙ y))) ∙ C .above i (omega arith) ∙ subst (λ (j : ℕ). getD before i 0 ≡ getD before j 0) (sym m) refl)
+      (λ m. here k m ∙ f (λ y. z (subst (λ (j : ℕ). getD labels j 0 ≡ l) (sym m) (sym e ∙ y)))
+      ∙ C .above i (omega arith) ∙ subst (λ (j : ℕ). getD before i 0 ≡ getD before j 0) (sym m) refl)
       (λ n. there k n ∙ C .kept k p (omega (arith, q, n)) z);
   under = λ k p. there k (omega (arith, p, o)) ∙ C .under k p;
   above = λ k p. there k (omega (arith, p)) ∙ C .above k (omega (arith, p));
@@ -76,7 +92,8 @@ clearing-more {labels} {l} {from} {i} {label} {x} {before} {after} C o h e g f =
     there : (k : ℕ) → k ≢ i → getD (set after i x) k 0 ≡ getD after k 0
     there k n = getD-set-other after i k x 0 n
 
-pub clearing-all : {b labels : List ℕ} {v l i : ℕ} {r : Span} {before after : List ℕ} → RangeOf b v r → i ≡ r .to → Clearing labels l (r .from) i before after
+pub clearing-all : {b labels : List ℕ} {v l i : ℕ} {r : Span} {before after : List ℕ} → RangeOf b v r → i ≡ r .to
+    → Clearing labels l (r .from) i before after
     → TakenOut b labels v l before after
 clearing-all {b} {labels} {v} {l} {i} {r} {before} {after} R e C = record {
   long = C .long;
@@ -88,7 +105,8 @@ clearing-all {b} {labels} {v} {l} {i} {r} {before} {after} R e C = record {
   where
     outside : (k : ℕ) → fromOf b k ≢ v → getD after k 0 ≡ getD before k 0
     outside k p = by-cases (decLt k (r .from)) (C .under k)
-        (λ f. by-cases (decLt k i) (λ g. absurd (p (at-mid (R .begins) (R .ends) k (omega (arith, f)) (omega (arith, g, e))))) (λ g. C .above k (omega (arith, g))))
+        (λ f. by-cases (decLt k i)
+        (λ g. absurd (p (at-mid (R .begins) (R .ends) k (omega (arith, f)) (omega (arith, g, e))))) (λ g. C .above k (omega (arith, g))))
 
 -- kept transitions of a body that passes lead to numbers of sets
 pub kept-low : {b keep : List ℕ} → checkOf b ≡ stage.Passed → (u w : ℕ) → Kept b keep u w → w < 128

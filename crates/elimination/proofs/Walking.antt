@@ -27,7 +27,9 @@ row-known {w = w} R h = record { long = R .long; here = λ y l. R .exactly w y h
 pub row-put : {E : Edges} {read r : Set} {a : List ℕ} {w : ℕ} → RowsOf E read a → w < 128 → Members (E w) r → RowRead E w a (putRow a w r)
 row-put {r = r} {a} {w} R l M = record {
   long = put-long a w r ∙ R .long;
-  here = λ y h. let e = put-here a w r (omega (arith, R .long, l)) in ((λ g. M .exactly y h .0 (rw e at g)), (λ g. rw e (M .exactly y h .1 g)));
+  here =
+      λ y h. let e = put-here a w r (omega (arith, R .long, l)) in
+      ((λ g. M .exactly y h .0 (rw e at g)), (λ g. rw e (M .exactly y h .1 g)));
   others = λ x n. put-other a w r x n;
 }
 
@@ -41,7 +43,8 @@ module _ {a path : List ℕ} {depth : ℕ} {targets past : Set} where
     );
   }
 
-  pub onward-row : {q r : Set} → depth ≢ 0 → q ≡ rowOf a (getD path depth 0) → Difference q past r → Members (Onward a path depth targets past) r
+  pub onward-row : {q r : Set} → depth ≢ 0 → q ≡ rowOf a (getD path depth 0) → Difference q past r
+      → Members (Onward a path depth targets past) r
   onward-row n e D = record {
     exactly = λ y l. (
       (λ h. let (p, q) = D y .0 h in record { left = q; first = λ z. absurd (n z); follows = λ d. rw e at p }),
@@ -73,7 +76,8 @@ not-stop : {E : Edges} {v w : ℕ} → w ≡ v → ¬ Endless (Avoid v E) w
 not-stop e p = (p .next 0) .0 (subst (λ (x : ℕ). p .at 0 ≡ x) e (p .first))
 
 module _ {E : Edges} (low : (x y : ℕ) → E x y → y < 128) {v : ℕ} {targets : Set} where
-  pub walking-none : {a path : List ℕ} {read past : Set} {begin : Set} → length a ≡ 256 → length path ≡ 130 → read ≡ emptySet → begin ≡ emptySet
+  pub walking-none : {a path : List ℕ} {read past : Set} {begin : Set} → length a ≡ 256 → length path ≡ 130
+      → read ≡ emptySet → begin ≡ emptySet
       → ((y : ℕ) → Has past y ↔ (Has begin y ⊎ (y ≡ v))) → Walking E v targets a read past targets path 0
   walking-none {read = read} {past} {begin} l m r b P = record {
     rows = record { long = l; exactly = λ x y h. absurd (unread x h) };
@@ -117,7 +121,9 @@ module _ {E : Edges} (low : (x y : ℕ) → E x y → y < 128) {v : ℕ} {target
       follows d = I .rows .exactly _ w (I .on depth d (omega arith)) l .0 (o .follows d)
 
       in-body : Has body w
-      in-body = by-cases (ℕ-discrete depth 0) (λ z. I .begun w (o .first z)) (λ n. let d : 0 < depth = omega (arith, n) in I .seen _ w (I .on depth d (omega arith)) (follows d))
+      in-body =
+          by-cases (ℕ-discrete depth 0) (λ z. I .begun w (o .first z))
+          (λ n. let d : 0 < depth = omega (arith, n) in I .seen _ w (I .on depth d (omega arith)) (follows d))
 
       top : (i : ℕ) → i ≡ depth + 1 → getD (set path (depth + 1) w) i 0 ≡ w
       top i z = rw z (getD-set-same path (depth + 1) w 0 (omega (arith, I .long, h)))
@@ -127,12 +133,22 @@ module _ {E : Edges} (low : (x y : ℕ) → E x y → y < 128) {v : ℕ} {target
 
       pub walking-on : Walking E v targets a′ read′ past body′ (set path (depth + 1) w) (depth + 1)
       walking-on = record {
-        rows = record { long = R .long; exactly = λ x y g k. by-cases (ℕ-discrete x w) (λ z. subst (λ (u : ℕ). HasRow a′ u y ↔ E u y) (sym z) (R .here y k)) (λ n. rw (R .others x n) (I .rows .exactly x y (⊎-elim (λ p. p) (λ p. absurd (n p)) (W x .0 g)) k)) };
+        rows =
+            record {
+              long = R .long;
+              exactly = λ x y g k. by-cases (ℕ-discrete x w)
+                  (λ z. subst (λ (u : ℕ). HasRow a′ u y ↔ E u y) (sym z) (R .here y k))
+                  (λ n. rw (R .others x n) (I .rows .exactly x y (⊎-elim (λ p. p) (λ p. absurd (n p)) (W x .0 g)) k));
+            };
         long = length-set path (depth + 1) w ∙ I .long;
         deep = omega (arith, h);
         stop = I .stop;
-        on = λ i p k. W _ .1 (by-cases (ℕ-discrete i (depth + 1)) (λ z. inr (top i z)) (λ n. inl (rw (under i n) (I .on i p (omega (arith, k, n))))));
-        not-past = λ i p k. by-cases (ℕ-discrete i (depth + 1)) (λ z. rw (top i z) (o .left)) (λ n. rw (under i n) (I .not-past i p (omega (arith, k, n))));
+        on =
+            λ i p k. W _ .1 (by-cases (ℕ-discrete i (depth + 1)) (λ z. inr (top i z))
+            (λ n. inl (rw (under i n) (I .on i p (omega (arith, k, n))))));
+        not-past =
+            λ i p k. by-cases (ℕ-discrete i (depth + 1)) (λ z. rw (top i z) (o .left))
+            (λ n. rw (under i n) (I .not-past i p (omega (arith, k, n))));
         leads = λ i p k. by-cases (ℕ-discrete i depth)
             (λ z. rw (under i (omega (arith, k)), top (suc i) (omega (arith, z)), z) (follows (omega (arith, p, z))))
             (λ n. rw (under i (λ z. omega (arith, k, z)), under (suc i) (λ z. n (omega (arith, z)))) (I .leads i p (omega (arith, k, n))));
@@ -140,9 +156,12 @@ module _ {E : Edges} (low : (x y : ℕ) → E x y → y < 128) {v : ℕ} {target
         closed = I .closed;
         past-read = λ x g n. W x .1 (inl (I .past-read x g n));
         begun = λ x g. more x (I .begun x g);
-        seen = λ x y g k. ⊎-elim (λ p. more y (I .seen x y p k)) (λ z. U y .1 (inr (row-of y .1 (subst (λ (u : ℕ). E u y) z k)))) (W x .0 g);
+        seen =
+            λ x y g k. ⊎-elim (λ p. more y (I .seen x y p k)) (λ z. U y .1 (inr (row-of y .1 (subst (λ (u : ℕ). E u y) z k)))) (W x .0 g);
         reads = λ x g. more x (⊎-elim (I .reads x) (λ z. subst (Has body) (sym z) in-body) (W x .0 g));
-        sound = λ x g. ⊎-elim (I .sound x) (λ k. let (u, t, p) = I .sound w in-body in (u, t, star-snoc p ((λ z. o .left (subst (Has past) (sym z) (I .stop))), row-of x .0 k))) (U x .0 g);
+        sound =
+            λ x g. ⊎-elim (I .sound x) (λ k. let (u, t, p) = I .sound w in-body in
+            (u, t, star-snoc p ((λ z. o .left (subst (Has past) (sym z) (I .stop))), row-of x .0 k))) (U x .0 g);
       }
 
     -- nothing goes on
@@ -162,7 +181,8 @@ module _ {E : Edges} (low : (x y : ℕ) → E x y → y < 128) {v : ℕ} {target
         last-ends : ¬ Endless (Avoid v E) (getD path depth 0)
         last-ends p =
             let s : Avoid v E (getD path depth 0) (p .at 1) = subst (λ (x : ℕ). Avoid v E x (p .at 1)) (p .first) (p .next 0) in
-            by-cases (ℕ-discrete (p .at 1) v) (λ z. not-stop z (endless-from p 1)) (λ n. I .gone (p .at 1) (last-leads _ (s .1)) n (endless-from p 1))
+            by-cases (ℕ-discrete (p .at 1) v) (λ z. not-stop z (endless-from p 1))
+            (λ n. I .gone (p .at 1) (last-leads _ (s .1)) n (endless-from p 1))
 
         still : (i : ℕ) → 0 < i → i < depth → getD path i 0 ≢ getD path depth 0
         still i p k z = I .not-past (suc i) (omega arith) k (last-leads _ (subst (λ (x : ℕ). E x (getD path (suc i) 0)) z (I .leads i p k)))
@@ -177,7 +197,8 @@ module _ {E : Edges} (low : (x y : ℕ) → E x y → y < 128) {v : ℕ} {target
           not-past = λ i p k g. ⊎-elim (I .not-past i p (omega (arith, k))) (still i p (omega (arith, k, d))) (W _ .0 g);
           leads = λ i p k. I .leads i p (omega (arith, k));
           gone = λ x g n. ⊎-elim (λ p. I .gone x p n) (λ z. subst (λ (u : ℕ). ¬ Endless (Avoid v E) u) (sym z) last-ends) (W x .0 g);
-          closed = λ x y g n k. W y .1 (inl (⊎-elim (λ p. I .closed x y p n k) (λ z. last-leads y (subst (λ (u : ℕ). E u y) z k)) (W x .0 g)));
+          closed =
+              λ x y g n k. W y .1 (inl (⊎-elim (λ p. I .closed x y p n k) (λ z. last-leads y (subst (λ (u : ℕ). E u y) z k)) (W x .0 g)));
           past-read = λ x g n. ⊎-elim (λ p. I .past-read x p n) (λ z. subst (Has read) (sym z) (I .on depth d (omega arith))) (W x .0 g);
           begun = I .begun;
           seen = I .seen;
@@ -186,7 +207,8 @@ module _ {E : Edges} (low : (x y : ℕ) → E x y → y < 128) {v : ℕ} {target
         }
 
         pub walking-more : sizeOf past < sizeOf past′
-        walking-more = size-lt past past′ (getD path depth 0) (λ y g. W y .1 (inl g)) (W _ .1 (inr refl)) (I .not-past depth d (omega arith))
+        walking-more =
+            size-lt past past′ (getD path depth 0) (λ y g. W y .1 (inl g)) (W _ .1 (inr refl)) (I .not-past depth d (omega arith))
 
       -- THE END: all that the entries reach is past and in the body, and no cycle stands aside of v
       pub walking-ended : depth ≡ 0 → FoundIn v (Has targets) E (record { stray = false; body = body })
@@ -197,7 +219,9 @@ module _ {E : Edges} (low : (x y : ℕ) → E x y → y < 128) {v : ℕ} {target
       }
         where
           first-past : (u : ℕ) → Has targets u → Has past u
-          first-past u g = by-cases (has? past u) (λ p. p) (λ n. absurd (ended u (g .below) (record { left = n; first = λ e. g; follows = λ d. absurd (omega (arith, z, d)) })))
+          first-past u g =
+              by-cases (has? past u) (λ p. p)
+              (λ n. absurd (ended u (g .below) (record { left = n; first = λ e. g; follows = λ d. absurd (omega (arith, z, d)) })))
 
           along : {u y : ℕ} → Star (Avoid v E) u y → Has past u × Has body u → Has past y × Has body y
           along here p = p
@@ -226,5 +250,10 @@ module _ {E : Edges} (low : (x y : ℕ) → E x y → y < 128) {v : ℕ} {target
 
       go : (i j : ℕ) × (i < j) × (j ≤ 128) × (at i ≡ at j) → Stray v (Has targets) E
       go (i, j, l, m, z) =
-          let c = stretch {E = Avoid v E} at i j l (λ k p q. along k (omega (arith, q, m))) in
-          (at i, apart i (omega (arith, l, m)), I .sound (at i) (I .reads (at i) (I .on (suc i) (omega arith) (omega (arith, l, m, deep)))), subst (λ (x : ℕ). Plus (Avoid v E) (at i) x) (sym z) c)
+          let c = stretch {E = Avoid v E} at i j l (λ k p q. along k (omega (arith, q, m))) in (
+            at i,
+            apart i (omega (arith, l, m)),
+            I .sound (at i)
+                (I .reads (at i) (I .on (suc i) (omega arith) (omega (arith, l, m, deep)))),
+            subst (λ (x : ℕ). Plus (Avoid v E) (at i) x) (sym z) c,
+          )

@@ -34,7 +34,8 @@ fn standing_fits(standing: &[u8], n: usize) -> bool
 // What the standing entries of the loop (v, level) lead to; where there is none, nothing.
 fn entry_targets(chart: &[u8], labels: &[u8], v: usize, level: usize, standing: &[u8]) -> Set
     requires { ⌜ Fits (now chart) (now labels) (now standing) ⌝ }
-    ensures { λ r. ⌜ Members (EntryTargets (now (chart .entry)) (now (labels .entry)) (now (standing .entry)) v level) r ⌝ }
+    ensures { λ r. ⌜ Members
+        (EntryTargets (now (chart .entry)) (now (labels .entry)) (now (standing .entry)) v level) r ⌝ }
 {
     let mut set = Set::empty();
     if level == 0 {

@@ -1,44 +1,29 @@
 -- Sets of vertices as sixteen bytes: which bits the bytes of a set have, that the bits determine the bytes, and the list
 -- of a state's members.
-use mathlib.Core.Path.{_≡_, refl, sym, ap, _∙_}
-use mathlib.Core.Logic.{_⊎_, inl, inr, _↔_, Iff·trans, ⊎-elim}
+use mathlib.Core.Path.{_≡_, refl, sym, ap, _∙_, subst}
+use mathlib.Core.Logic.{_⊎_, inl, inr, _↔_, Iff·symm, Iff·trans, ⊎-elim}
 use mathlib.Core.Bool.{Bool, true, false, cond, true≢false}
 use mathlib.Core.List.{List, [], _∷_, List·Memᴰ, List·Memᴰ·head, List·Memᴰ·tail, List·Memᴰ·not-nil, List·Memᴰ·cases-cons}
 use Prim.Native.Nat.{ℕ, zero, suc, _+_, _-_, _*_, _/_, _%_, _^_, _≤_, _<_}
-use native.Mathlib.Nat.{add-mul-div-left, div-eq-of-lt, pow-suc, eq-or-lt-of-le, le-of-suc-le-suc}
+use native.Mathlib.Nat.{pow-suc, eq-or-lt-of-le, le-of-suc-le-suc}
 use native.Mathlib.Decide.{decLt}
 use native.Mathlib.Omega.{arith}
 use lib.Dec.{eqb, ltb}
 use lib.ListN.{length, getD, List·getD-eq-default}
-use lib.Pow.{pow-add, pow-pos}
 use lib.Seq.{ext-getD}
 use borrow.Author.Tests.{eq-eqb, eqb-true, lt-ltb}
 use Rattle.theory.specs.Ascending.{Below, Ascending}
 use Rattle.theory.specs.Tests.{someIn}
-use Rattle.theory.proofs.Tests.{decides-listed}
+use Rattle.theory.proofs.Tests.{decides-eqb, decides-listed}
 use Rattle.bits.specs.Bits.{Bytes, hasBit, bitsOf, bytesFrom, setBytes, listFrom}
 use Rattle.bits.specs.Words.{On}
 use Rattle.bits.proofs.Words.{bit-below}
+use Rattle.bits.proofs.Packed.{stacked-low, stacked-high}
+use Rattle.bits.proofs.Determined.{test-one}
 use Rattle.bits.proofs.Members.{same-word}
 use Rattle.follower.specs.States.{membersOf, stateOf}
 
--- ONE BYTE. A power of two above the bits of x adds its own bit, and changes none below
-bit-kept : (x j d : ℕ) → (x + 2 ^ (j + suc d)) / 2 ^ j % 2 ≡ x / 2 ^ j % 2
-bit-kept x j d = even (x / 2 ^ j) (2 ^ d) (
-    ap (λ (n : ℕ). (x + n) / 2 ^ j) (pow-add 2 j (suc d))
-    ∙ add-mul-div-left x (2 ^ suc d) (pow-pos j)
-    ∙ ap (λ (n : ℕ). x / 2 ^ j + n) (pow-suc 2 d)
-    )
-  where
-    even : (a z : ℕ) {n : ℕ} → n ≡ a + z * 2 → n % 2 ≡ a % 2
-    even a z e = omega arith
-
-bit-new : (x k : ℕ) → x < 2 ^ k → (x + 2 ^ k) / 2 ^ k % 2 ≡ 1
-bit-new x k h =
-    let one : 2 ^ k ≡ 2 ^ k * 1 = omega arith in
-    let e = ap (λ (n : ℕ). (x + n) / 2 ^ k) one ∙ add-mul-div-left x 1 (pow-pos k) ∙ ap (λ (n : ℕ). n + 1) (div-eq-of-lt h) in
-    ap (λ (n : ℕ). n % 2) e
-
+-- ONE BYTE
 module _ (p : ℕ → Bool) where
   bits-low : (k : ℕ) → bitsOf p k < 2 ^ k
   unfolding bitsOf
@@ -49,26 +34,33 @@ module _ (p : ℕ → Bool) where
       go true h e = omega arith
       go false h e = omega arith
 
-  bits-at : (k j : ℕ) → j < k → bitsOf p k / 2 ^ j % 2 ≡ cond (p j) 1 0
+  bits-at : (k j : ℕ) → j < k → On (bitsOf p k) j ↔ (p j ≡ true)
   unfolding bitsOf
   bits-at zero j h = absurd (omega arith)
-  bits-at (suc k) j h = ⊎-elim (λ e. rw e (last (p k))) (λ l. below (p k) l ∙ bits-at k j l) (eq-or-lt-of-le (le-of-suc-le-suc h))
+  bits-at (suc k) j h =
+      subst (λ (n : ℕ). On (bitsOf p k + n) j ↔ (p j ≡ true)) (sym (worth (p k)))
+      (⊎-elim last (λ l. Iff·trans (below l) (bits-at k j l)) (eq-or-lt-of-le (le-of-suc-le-suc h)))
     where
-      last : (b : Bool) → (bitsOf p k + cond b (2 ^ k) 0) / 2 ^ k % 2 ≡ cond b 1 0
-      last true = bit-new (bitsOf p k) k (bits-low k)
-      last false =
-          let e : bitsOf p k + 0 ≡ bitsOf p k = omega arith in
-          ap (λ (n : ℕ). n / 2 ^ k % 2) e ∙ ap (λ (n : ℕ). n % 2) (div-eq-of-lt (bits-low k))
+      worth : (b : Bool) → cond b (2 ^ k) 0 ≡ 2 ^ k * cond b 1 0
+      worth true = omega arith
+      worth false = omega arith
 
-      below : (b : Bool) → j < k → (bitsOf p k + cond b (2 ^ k) 0) / 2 ^ j % 2 ≡ bitsOf p k / 2 ^ j % 2
-      below true l =
-          let e : k ≡ j + suc (k - j - 1) = omega arith in
-          ap (λ (n : ℕ). (bitsOf p k + 2 ^ n) / 2 ^ j % 2) e ∙ bit-kept (bitsOf p k) j (k - j - 1)
-      below false l = let e : bitsOf p k + 0 ≡ bitsOf p k = omega arith in ap (λ (n : ℕ). n / 2 ^ j % 2) e
+      one : (b : Bool) → On (cond b 1 0) 0 ↔ (b ≡ true)
+      one true = (λ e. refl, λ e. refl)
+      one false = (λ e. absurd (omega (arith, e)), λ e. absurd (true≢false (sym e)))
 
-tested-one : (b : Bool) → eqb (cond b 1 0) 1 ≡ b
-tested-one true = refl
-tested-one false = refl
+      last : j ≡ k → On (bitsOf p k + 2 ^ k * cond (p k) 1 0) j ↔ (p j ≡ true)
+      last e =
+          let z : k + 0 ≡ j = omega (arith, e) in
+          let S = stacked-high (bitsOf p k) (cond (p k) 1 0) k 0 (bits-low k) in
+          subst (λ (n : ℕ). On (bitsOf p k + 2 ^ k * cond (p k) 1 0) j ↔ (p n ≡ true)) (sym e)
+          (Iff·trans (subst (λ (n : ℕ). On (bitsOf p k + 2 ^ k * cond (p k) 1 0) n ↔ On (cond (p k) 1 0) 0) z S) (one (p k)))
+
+      below : j < k → On (bitsOf p k + 2 ^ k * cond (p k) 1 0) j ↔ On (bitsOf p k) j
+      below l =
+          let e : j + suc (k - j - 1) ≡ k = omega (arith, l) in
+          let S = stacked-low (bitsOf p k) (cond (p k) 1 0) j (k - j - 1) in
+          subst (λ (n : ℕ). On (bitsOf p k + 2 ^ n * cond (p k) 1 0) j ↔ On (bitsOf p k) j) e S
 
 -- SIXTEEN BYTES
 module _ (p : ℕ → Bool) where
@@ -106,7 +98,7 @@ module _ (p : ℕ → Bool) where
       let e : 8 * (0 + v / 8) + v % 8 ≡ v = omega arith in
       let at = byte-at (v / 8) (omega arith) in
       let on = bits-at (λ j. p (8 * (0 + v / 8) + j)) 8 (v % 8) (omega arith) in
-      ap (λ (x : ℕ). eqb (x / 2 ^ (v % 8) % 2) 1) at ∙ ap (λ (d : ℕ). eqb d 1) on ∙ tested-one _ ∙ ap p e
+      ap (λ (x : ℕ). eqb (x / 2 ^ (v % 8) % 2) 1) at ∙ test-one _ _ (decides-eqb _ 1) (Iff·symm on) ∙ ap p e
 
 -- THE BITS DETERMINE THE BYTES
 pub same-bytes : (s t : List ℕ) → length s ≡ 16 → length t ≡ 16 → Bytes s → Bytes t

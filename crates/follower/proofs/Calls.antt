@@ -2,20 +2,18 @@
 use Prim.Native.Nat.{ℕ, _<_, _≤_}
 use mathlib.Core.Path.{_≡_, refl, sym, ap, _∙_}
 use mathlib.Core.Logic.{_≢_, _↔_, Iff·rfl, Iff·symm, Iff·trans, ⊎-elim, by-cases}
-use mathlib.Core.Bool.{Bool, true, false}
 use mathlib.Core.List.{List, [], _∷_, List·Memᴰ, List·Memᴰ·head, List·Memᴰ·eq-of-singleton}
 use native.Mathlib.Decide.{ℕ-discrete}
 use native.Mathlib.Omega.{arith}
 use lib.ListN.{length}
 use borrow.Author.Tests.{eq-eqb, ne-eqb}
-use Rattle.theory.specs.Systems.{System}
 use Rattle.theory.specs.Tests.{Decides}
-use Rattle.theory.specs.Followers.{StateSet, SameMembers, Offered, Closed, Shows, Effect, keep, fresh, empty, go, FollowerRule, Responds}
+use Rattle.theory.specs.Followers.{StateSet, Offered, Closed, Shows, Effect, keep, fresh, empty, go, Responds}
 use Rattle.theory.specs.Events.{Call, restart, event, Answer, taken, told, replyTo, eventRule}
 use Rattle.theory.specs.Runs.{viewOf, leftBy, callOn}
 use Rattle.theory.proofs.Tests.{decided, is-false, decides-same, decides-and, decides-not, decides-leb, decides-in}
 use Rattle.theory.proofs.Systems.{identity, lift-equal, equal-lift}
-use Rattle.theory.proofs.Followers.{shows-carried, responds-agree, responds-carried, responds-within, responds-some, chart-closed}
+use Rattle.theory.proofs.Followers.{shows-carried, responds-agree, responds-carried, responds-same, responds-within, responds-some, chart-closed}
 use Rattle.theory.proofs.Events.{restart-taken, event-never-empties}
 use Rattle.theory.proofs.Runs.{view-shows, call-responds, chart-machine}
 use Rattle.report.specs.declared.Followed.{Followed}
@@ -24,6 +22,7 @@ use Rattle.report.specs.declared.Place.{Place}
 use Rattle.report.specs.declared.Stage.{Stage}
 use Rattle.report.specs.declared.Stage.the-variants as stage
 use Rattle.bits.specs.Bits.{Bytes, hasBit}
+use Rattle.bits.proofs.Determined.{test-one}
 use Rattle.chart.specs.Bodies.{verticesOf, startOf, WellFormed}
 use Rattle.chart.specs.Checks.{checkOf}
 use Rattle.chart.proofs.Checks.{well-formed, passes, check-20, check-21}
@@ -40,28 +39,10 @@ use Rattle.follower.proofs.Bytes.{set-length, set-bytes, same-bytes, me
 pub same-state : {s t : List ℕ} → StateBytes s → StateBytes t → ((v : ℕ) → InState s v ↔ InState t v) → s ≡ t
 same-state {s} {t} S T e =
     same-bytes s t (S .sixteen) (T .sixteen) (S .bytes) (T .bytes)
-    (λ v h. same (hasBit s v) (hasBit t v) (λ i. e v .0 (h, i) .1) (λ i. e v .1 (h, i) .1))
-  where
-    same : (p q : Bool) → (p ≡ true → q ≡ true) → (q ≡ true → p ≡ true) → p ≡ q
-    same true q f g = sym (f refl)
-    same false true f g = g refl
-    same false false f g = refl
+    (λ v h. test-one (hasBit s v) (hasBit t v) (λ i. e v .0 (h, i) .1, λ i. e v .1 (h, i) .1) Iff·rfl)
 
 pub state-of : (xs : List ℕ) → StateBytes (stateOf xs)
 state-of xs = record { sixteen = set-length _; bytes = set-bytes _ }
-
--- what is left may be said by any set with its members
-left-same : (rule : FollowerRule) {M : System} {P Q Z : StateSet M} {k l : rule .Kept} {c : rule .Call} {x : rule .Answer}
-    → SameMembers M Q Z → Responds rule M P k c x Q l → Responds rule M P k c x Z l
-left-same rule {M} e r = record {
-  before = r .before;
-  after = r .after;
-  shown-before = r .shown-before;
-  shown-after = shows-carried (identity M) (lift-equal e) (r .shown-after);
-  members = λ y. Iff·trans (Iff·symm (e y)) (r .members y);
-  answer = r .answer;
-  kept = r .kept;
-}
 
 -- THE TEST of 53 decides what 53 asks
 pub tests-set : (b s : List ℕ) → Decides (setTest b s) (SetPasses b s)
@@ -107,7 +88,7 @@ module _ {b : List ℕ} (W : WellFormed b) where
   listed s c =
       let r = call-responds (machineOf b) eventRule (tt, membersOf s) c in
       let (Z, q, m) = responds-carried (chart-machine _ _) eventRule (lift-equal (members-are s)) r in
-      left-same eventRule (λ v. Iff·symm (equal-lift m v)) q
+      responds-same eventRule (chartOf b) (λ v. Iff·symm (equal-lift m v)) q
 
   -- the bytes of a list of vertices have just these
   bytes-of : (xs : List ℕ) → ((v : ℕ) → List·Memᴰ v xs → v < verticesOf b) → (v : ℕ) → List·Memᴰ v xs ↔ InState (stateOf xs) v
@@ -173,7 +154,9 @@ module _ {b : List ℕ} (W : WellFormed b) where
         answer = callOn eventRule (machineOf b) (tt, membersOf (f .set)) (event a) .0;
         answered = refl;
         state = state-left e S;
-        responds = left-same eventRule (bytes-left (f .set) e (responds-within eventRule (chartOf b) closed (p .below) r)) r;
+        responds =
+            responds-same eventRule (chartOf b)
+            (bytes-left (f .set) e (responds-within eventRule (chartOf b) closed (p .below) r)) r;
       })
 
   pub call-ruled : (f : Follower) (c : Call) → StateBytes (f .set) → Ready b (f .set) c → Ruled b (f .set) c (called b f c)

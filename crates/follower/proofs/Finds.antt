@@ -72,11 +72,13 @@ module _ (b : List ℕ) (W : WellFormed b) (B : Bytes b) where
   move-acts : (u a w : ℕ) → List·Memᴰ (a, w) (M .moves u) ↔ ActsOf b u a w
   move-acts u a w = (
     (λ m. let (x, s, e) = chart-machine (startOf b) (transitionsOf b) .forth u u refl a w m in acts-member b u a w .1 (rw e s)),
-    (λ k. let (x, s, e) = chart-machine (startOf b) (transitionsOf b) .back u u refl a w (acts-member b u a w .0 k) in subst (λ (y : ℕ). List·Memᴰ (a, y) (M .moves u)) e s),
+    (λ k. let (x, s, e) = chart-machine (startOf b) (transitionsOf b) .back u u refl a w
+        (acts-member b u a w .0 k) in subst (λ (y : ℕ). List·Memᴰ (a, y) (M .moves u)) e s),
   )
 
   -- THE TARGETS by an action
-  pub image-same : {set targets : Set} {xs : List ℕ} {a : ℕ} → Same set xs → Members (Image b set a) targets → Same targets (leftBy M (go a) xs)
+  pub image-same : {set targets : Set} {xs : List ℕ} {a : ℕ} → Same set xs → Members (Image b set a) targets
+      → Same targets (leftBy M (go a) xs)
   image-same {set} {targets} {xs} {a} S I w = (
     (λ h. let (u, m, k) = I .exactly w (h .below) .0 h in effect-members M (go a) xs w .1 (u, S u .0 m, move-acts u a w .1 k)),
     (λ m. let (u, g, j) = effect-members M (go a) xs w .0 m in
@@ -85,7 +87,8 @@ module _ (b : List ℕ) (W : WellFormed b) (B : Bytes b) where
   )
 
   -- WHAT IS SHOWN: whether the end is in the set, and the actions that are marked
-  module _ {set : Set} {xs marks : List ℕ} (S : Same set xs) (K : Marks (Offers b set) marks) {end : Bool} (E : Decides end (Has set 0)) where
+  module _ {set : Set} {xs marks : List ℕ} (S : Same set xs) (K : Marks (Offers b set) marks) {end : Bool}
+      (E : Decides end (Has set 0)) where
     offers-same : (a : ℕ) → List·Memᴰ a (markedOf marks) ↔ Offered (system M) (MembersOf M xs) a
     offers-same a = (
       (λ m. let (p, l, e) = list-from→ _ 0 256 a m in
@@ -93,7 +96,8 @@ module _ (b : List ℕ) (W : WellFormed b) (B : Bytes b) where
           (o .acts .to, (o .from, S _ .0 (o .member), move-acts _ a _ .1 (o .acts .acts)))),
       (λ (w, (u, g, j)). let k = move-acts u a w .0 j in
           let l : a < 256 = omega (arith, k .holds .is, B (4 * k .at + 4 + 1)) in
-          list-from← _ 0 256 a (omega arith) (omega (arith, l)) (decides-eqb _ 1 .1 (K .exactly a l .1 (record { from = u; member = S u .1 g; acts = record { to = w; acts = k } })))),
+          list-from← _ 0 256 a (omega arith) (omega (arith, l))
+          (decides-eqb _ 1 .1 (K .exactly a l .1 (record { from = u; member = S u .1 g; acts = record { to = w; acts = k } })))),
     )
 
     shown : Shows (system M) (MembersOf M xs) (record { some = nonempty xs; end = end; offered = markedOf marks })
@@ -108,7 +112,8 @@ module _ (b : List ℕ) (W : WellFormed b) (B : Bytes b) where
     told-same w = ap (told w) (one-view (system M) (view-shows M xs) shown)
 
   -- AN EVENT over bytes whose set has a member
-  module _ (s : List ℕ) {set targets : Set} {a : ℕ} (S : Same set (membersOf s)) (some : ¬ Empty set) (I : Members (Image b set a) targets) where
+  module _ (s : List ℕ) {set targets : Set} {a : ℕ} (S : Same set (membersOf s)) (some : ¬ Empty set)
+      (I : Members (Image b set a) targets) where
     has-some : nonempty (membersOf s) ≡ true
     has-some = go (membersOf s) (λ v h. S v .0 h)
       where
@@ -117,7 +122,8 @@ module _ (b : List ℕ) (W : WellFormed b) (B : Bytes b) where
         go (x ∷ xs) f = refl
 
     offers : Decides (someIn (eqb a) (viewOf M (membersOf s) .offered)) (¬ Empty targets)
-    offers = decides-same (Iff·trans (view-shows M (membersOf s) .offered a) (to, from)) (decides-listed a (viewOf M (membersOf s) .offered))
+    offers =
+        decides-same (Iff·trans (view-shows M (membersOf s) .offered a) (to, from)) (decides-listed a (viewOf M (membersOf s) .offered))
       where
         to : Offered (system M) (MembersOf M (membersOf s)) a → ¬ Empty targets
         to (w, n) e = e w (image-same S I w .1 (effect-members M (go a) (membersOf s) w .1 n))
@@ -128,12 +134,14 @@ module _ (b : List ℕ) (W : WellFormed b) (B : Bytes b) where
             (λ g. absurd (n (λ w h. g w (h .below) h)))
             (look-below (has? targets) 128)
 
-    pub event-keeps : Empty targets → (answerOf b s (event a) ≡ followedAs (told not-possible (viewOf M (membersOf s)))) × (bytesAfter b s (event a) ≡ s)
+    pub event-keeps : Empty targets → (answerOf b s (event a) ≡ followedAs
+        (told not-possible (viewOf M (membersOf s)))) × (bytesAfter b s (event a) ≡ s)
     unfolding answerOf bytesAfter
     event-keeps e = let q = is-false offers (λ n. n e) in (rw (has-some, q) refl, rw (has-some, q) refl)
 
     pub event-goes : ¬ Empty targets
-        → (answerOf b s (event a) ≡ followedAs (told taken (viewOf M (leftBy M (go a) (membersOf s))))) × (bytesAfter b s (event a) ≡ stateOf (leftBy M (go a) (membersOf s)))
+        → (answerOf b s (event a) ≡ followedAs (told taken (viewOf M (leftBy M (go a) (membersOf s)))))
+        × (bytesAfter b s (event a) ≡ stateOf (leftBy M (go a) (membersOf s)))
     unfolding answerOf bytesAfter
     event-goes n = let q = offers .1 n in (rw (has-some, q) refl, rw (has-some, q) refl)
 
@@ -144,11 +152,16 @@ module _ {set : Set} where
 
   pub fits-highest : {h n : ℕ} → Last set h → (ltb h n ≡ true) ↔ ((¬ Empty set) × ((w : ℕ) → Has set w → w < n))
   fits-highest {h} {n} L = (
-    (λ e. let l = decides-ltb h n .0 e in ((λ s. s h (L .has)), λ w g. by-cases (decLt h w) (λ k. absurd (L .above w k g)) (λ k. omega (arith, l, k)))),
+    (λ e. let l = decides-ltb h n .0 e in (
+      (λ s. s h (L .has)),
+      λ w g. by-cases (decLt h w)
+          (λ k. absurd (L .above w k g)) (λ k. omega (arith, l, k)),
+    )),
     (λ (s, g). decides-ltb h n .1 (g h (L .has))),
   )
 
-pub set-tested : (b s : List ℕ) {set : Set} → Same set (membersOf s) → Decides (setTest b s) ((¬ Empty set) × ((w : ℕ) → Has set w → w < verticesOf b))
+pub set-tested : (b s : List ℕ) {set : Set} → Same set (membersOf s)
+    → Decides (setTest b s) ((¬ Empty set) × ((w : ℕ) → Has set w → w < verticesOf b))
 set-tested b s {set} S = decides-same (to, from) (tests-set b s)
   where
     in-set : (v : ℕ) → InState s v ↔ Has set v
@@ -178,19 +191,24 @@ module _ (b : List ℕ) (C : checkOf b ≡ stage.Passed) (B : Bytes b) where
       unfolding eventOf
       passes-53 = rw (C, set-tested b (f .set) S .1 fits) refl
 
-      pub event-stays : Empty targets → {end : Bool} {n : ℕ} → Decides end (Has set 0) → CountOffered b set n → moved (NotPossible end n) (f .set) ≡ eventOf b f a
+      pub event-stays : Empty targets → {end : Bool} {n : ℕ} → Decides end (Has set 0) → CountOffered b set n
+          → moved (NotPossible end n) (f .set) ≡ eventOf b f a
       event-stays e {end} {n} E K =
           let (p, q) = event-keeps b Well B (f .set) S (fits .0) I e in
-          sym (passes-53 ∙ ap₂ moved (p ∙ ap followedAs (told-same b Well B S (K .exactly) E not-possible) ∙ ap (NotPossible end) (sym (K .many))) q)
+          sym (passes-53 ∙ ap₂ moved (p ∙ ap followedAs (told-same b Well B S (K .exactly) E not-possible)
+          ∙ ap (NotPossible end) (sym (K .many))) q)
 
-      pub event-moves : ¬ Empty targets → {end : Bool} {n : ℕ} {r : List ℕ} → Decides end (Has targets 0) → CountOffered b targets n → BytesOf targets r
+      pub event-moves : ¬ Empty targets → {end : Bool} {n : ℕ} {r : List ℕ} → Decides end (Has targets 0)
+          → CountOffered b targets n → BytesOf targets r
           → moved (Taken end n) r ≡ eventOf b f a
       event-moves e {end} {n} {r} E K R =
           let (p, q) = event-goes b Well B (f .set) S (fits .0) I e in
           let T = image-same b Well B S I in
-          sym (passes-53 ∙ ap₂ moved (p ∙ ap followedAs (told-same b Well B T (K .exactly) E taken) ∙ ap (Taken end) (sym (K .many))) (q ∙ sym (bytes-same _ R T)))
+          sym (passes-53 ∙ ap₂ moved (p ∙ ap followedAs (told-same b Well B T (K .exactly) E taken) ∙ ap (Taken end)
+          (sym (K .many))) (q ∙ sym (bytes-same _ R T)))
 
-  pub restart-moves : {set : Set} → ((y : ℕ) → Has set y ↔ (y ≡ startOf b)) → {end : Bool} {n : ℕ} {r : List ℕ} → Decides end (Has set 0) → CountOffered b set n → BytesOf set r
+  pub restart-moves : {set : Set} → ((y : ℕ) → Has set y ↔ (y ≡ startOf b)) → {end : Bool} {n : ℕ} {r : List ℕ}
+      → Decides end (Has set 0) → CountOffered b set n → BytesOf set r
       → moved (Taken end n) r ≡ restarted b
   unfolding answerOf bytesAfter
   restart-moves {set} H {end} {n} {r} E K R =
@@ -198,7 +216,8 @@ module _ (b : List ℕ) (C : checkOf b ≡ stage.Passed) (B : Bytes b) where
       sym (ap₂ moved (ap followedAs (told-same b Well B T (K .exactly) E taken) ∙ ap (Taken end) (sym (K .many))) (sym (bytes-same _ R T)))
 
 -- the set of the start alone
-pub only-start : (b : List ℕ) {none-yet set : Set} {start : ℕ} → none-yet ≡ emptySet → start ≡ startOf b → ((y : ℕ) → Has set y ↔ (Has none-yet y ⊎ (y ≡ start)))
+pub only-start : (b : List ℕ) {none-yet set : Set} {start : ℕ} → none-yet ≡ emptySet → start ≡ startOf b
+    → ((y : ℕ) → Has set y ↔ (Has none-yet y ⊎ (y ≡ start)))
     → (y : ℕ) → Has set y ↔ (y ≡ startOf b)
 only-start b e f W y = ((λ h. ⊎-elim (λ g. absurd (none y (rw e at g))) (λ z. z ∙ f) (W y .0 h)), (λ z. W y .1 (inr (z ∙ sym f))))
 

@@ -170,7 +170,8 @@ module _ {M : Type 1} (𝓤 : URA M) (H : Heap 𝓤) (A : Atoms 𝓤) (W : Given
         ((A .lft κ q ∗ A .lft κ′ q′ ∗ emp 𝓤) ∗ ⟦ fsep ftrue (fsep (behind κ′ b o γ h) P) ⟧ ∗ ⟦ S.the-row .own r (answer-val r ∷ []) ⟧)
     thin-ends h r is P p =
         qed W (Held κ q κ′ q′ b o γ h) ∵ nothing ! $ move ! (3 ∷ 0 ∷ []) $ join ! $ move ! (3 ∷ 0 ∷ []) $ join ! $ frame ! $
-        feqI ! (List Val) (vptr b o ∷ []) (vptr b o ∷ []) refl $ fjoin3 ! $ use0 W (‵ P) p $ move ! (1 ∷ 0 ∷ []) $ fjoin ! $ nothing ! $ fjoin ! $
+        feqI ! (List Val) (vptr b o ∷ []) (vptr b o ∷ []) refl $ fjoin3 ! $ use0 W (‵ P) p $ move !
+        (1 ∷ 0 ∷ []) $ fjoin ! $ nothing ! $ fjoin ! $
         owned ! S.the-row (Is S.the-row) (EL.makes S.the-type S′.the-plain 𝓤 H A) r _ is $ move ! (1 ∷ 0 ∷ []) $ done !
 
     pub thin-asked : (s : RefT (List ℕ)) (h : Follower) (P : Fml) → ent 𝓤 (emp 𝓤) ⟦ P ⟧
@@ -182,7 +183,8 @@ module _ {M : Type 1} (𝓤 : URA M) (H : Heap 𝓤) (A : Atoms 𝓤) (W : Given
         move ! (3 ∷ 0 ∷ []) $ fjoin ! $ move ! (2 ∷ 0 ∷ []) $ fjoin ! $ move ! (1 ∷ 0 ∷ []) $ join ! $ frame ! $ done !
 
   pub through-begins : (s : RefT (List ℕ)) (h : Follower) (P : Fml)
-      → ent 𝓤 ((A .lft κ q ∗ emp 𝓤) ∗ ⟦ fsep (chart κ s) (fsep (F.the-row .own h (vals h)) P) ⟧) (⋆ 𝓤 H A (‵ (flft κ q) ∷ ‵ (chart κ s) ∷ []))
+      → ent 𝓤 ((A .lft κ q ∗ emp 𝓤) ∗ ⟦ fsep (chart κ s) (fsep (F.the-row .own h (vals h)) P) ⟧)
+      (⋆ 𝓤 H A (‵ (flft κ q) ∷ ‵ (chart κ s) ∷ []))
   through-begins s h P =
       qed W ((‵ (flft κ q) ⊛ ‵ ftrue) ∷ ‵ (fsep (chart κ s) (fsep (F.the-row .own h (vals h)) P)) ∷ []) ∵
       split ! $ move ! (2 ∷ []) $ fsplit ! $ keep ! (2 ∷ 0 ∷ []) $ done !
@@ -190,7 +192,8 @@ module _ {M : Type 1} (𝓤 : URA M) (H : Heap 𝓤) (A : Atoms 𝓤) (W : Given
   pub through-ends : (a : Moved) → IsMoved a → (P : Fml) → ent 𝓤 (emp 𝓤) ⟦ P ⟧
       → ent 𝓤 (A .lft κ q) ((A .lft κ q ∗ emp 𝓤) ∗ ⟦ fsep ftrue (fsep ftrue P) ⟧ ∗ ⟦ R.the-row .own a (moved-val a ∷ []) ⟧)
   through-ends a is P p =
-      qed W (‵ (flft κ q) ∷ []) ∵ nothing ! $ move ! (1 ∷ 0 ∷ []) $ join ! $ frame ! $ use0 W (‵ P) p $ nothing ! $ fjoin ! $ nothing ! $ fjoin ! $
+      qed W (‵ (flft κ q) ∷ []) ∵ nothing ! $ move ! (1 ∷ 0 ∷ []) $ join ! $ frame ! $ use0 W
+      (‵ P) p $ nothing ! $ fjoin ! $ nothing ! $ fjoin ! $
       owned ! R.the-row (Is R.the-row) (LL.makes R.the-type R′.the-plain 𝓤 H A) a _ is $ move ! (1 ∷ 0 ∷ []) $ done !
 
 -- a follower's cell is what a loan of it holds, and back
@@ -203,7 +206,8 @@ module _ {M : Type 1} (𝓤 : URA M) (H : Heap 𝓤) (A : Atoms 𝓤) (W : Given
       owned ! F.the-row (Is F.the-row) (LL.makes F.the-type F′.the-plain 𝓤 H A) h _ was $ move ! (1 ∷ 0 ∷ []) $ fjoin ! $
       fpack ! (List Val) (λ us. fsep (cellAt fullShare (F.the-row .mir) us b o) (F.the-row .own h us)) (vals h) $ done !
 
-  lay : ent 𝓤 (sem 𝓤 H A (mem F.the-row .lies h b o)) (sep 𝓤 (sem 𝓤 H A (F.the-row .own h (vals h))) (sem 𝓤 H A (fat fullShare F′.mir b o (val h))))
+  lay : ent 𝓤 (sem 𝓤 H A (mem F.the-row .lies h b o))
+      (sep 𝓤 (sem 𝓤 H A (F.the-row .own h (vals h))) (sem 𝓤 H A (fat fullShare F′.mir b o (val h))))
   unfolding partOf
   lay =
       qed W (‵ (mem F.the-row .lies h b o) ∷ []) ∵ fpick ! (λ vs. fsplit ! $
@@ -226,7 +230,8 @@ module _ {M : Type 1} {𝓤 : URA M} {H : Heap 𝓤} {A : Atoms 𝓤} {K : Type 
       → Opd K W Γ E (copy (place i [])) v
   local t n e = load t (from t (stop t)) (look t n e)
 
-  at : K → {i : ℕ} {τ : Ty} {l : ℕ} {st : List Path} {to : Spot 𝓤 H} → At 𝓤 H E i τ l → Walks K W Γ E (τ, l, zero) st to → Finds K W Γ E (place i st) to
+  at : K → {i : ℕ} {τ : Ty} {l : ℕ} {st : List Path} {to : Spot 𝓤 H} → At 𝓤 H E i τ l
+      → Walks K W Γ E (τ, l, zero) st to → Finds K W Γ E (place i st) to
   at t {st = st} {to = to} e w = from t (subst (λ (z : Spot 𝓤 H). Walks K W Γ E z st to) (sym e) w)
 
   returned : K → {C : Calls 𝓤 H} {Λ : Loops 𝓤 H} {Q : Val → SProp 𝓤} {r : Val} {τ : Ty} {l : ℕ}
@@ -242,10 +247,13 @@ module _ {M : Type 1} {𝓤 : URA M} {H : Heap 𝓤} {A : Atoms 𝓤} {K : Type 
       → At 𝓤 H E zero S′.mir l₀ → At 𝓤 H E 2 τ l₂ → At 𝓤 H E m R′.mir lm → At 𝓤 H E c F′.mir lc
       → (IsFollower h → ent 𝓤 (sep 𝓤 (A .lft κ q) (sem 𝓤 H A P)) (Core .pre x))
       → {X : Type 0} (L : X → SProp 𝓤)
-      → ((w : Val) → ent 𝓤 (Core .post x w) (H .⇛ (ex 𝓤 (λ (n : Moved). sep 𝓤 (sep 𝓤 (sep 𝓤 (A .lft κ q) (emp 𝓤)) (sem 𝓤 H A (R.the-row .own n (w ∷ []))))
+      → ((w : Val) → ent 𝓤 (Core .post x w)
+      (H .⇛ (ex 𝓤 (λ (n : Moved). sep 𝓤 (sep 𝓤 (sep 𝓤 (A .lft κ q) (emp 𝓤)) (sem 𝓤 H A (R.the-row .own n (w ∷ []))))
       (ex 𝓤 (λ (u : X). sep 𝓤 (L u) (fact 𝓤 (n ≡ a))))))))
-      → Opds K W (raw (Core .pre x) ∷ ‵ (cellAt fullShare (F.the-row .mir) (vals h) b o) ∷ ‵ (fobor κ′ q′ (Body (mem F.the-row) b o γ)) ∷ ‵ (shown γ h)
-      ∷ ‵ (fauth γ (F.the-row .coded .code h)) ∷ ‵ (cell τ l₂ (vptr b o)) ∷ ‵ (cell F′.mir lc (val h)) ∷ ‵ (room R′.mir lm) ∷ ‵ (room S′.mir l₀)
+      → Opds K W (raw (Core .pre x) ∷ ‵ (cellAt fullShare (F.the-row .mir) (vals h) b o) ∷ ‵
+      (fobor κ′ q′ (Body (mem F.the-row) b o γ)) ∷ ‵ (shown γ h)
+      ∷ ‵ (fauth γ (F.the-row .coded .code h)) ∷ ‵ (cell τ l₂ (vptr b o)) ∷ ‵ (cell F′.mir lc (val h)) ∷ ‵
+      (room R′.mir lm) ∷ ‵ (room S′.mir l₀)
       ∷ Γ) E xs (Core .args x)
       → (IsAnswer (a .answer) → Seq K W (‵ (shown γ (a .follower)) ∷ ‵ (loan κ′ b o γ) ∷ ‵ (flft κ′ q′) ∷ ‵ (flft κ q)
       ∷ ‵ (room τ l₂) ∷ ‵ (room F′.mir lc) ∷ ‵ (room R′.mir lm) ∷ ‵ (room S′.mir l₀) ∷ Γ) (frees E (prop (Q (answer-val (a .answer))))))
@@ -259,9 +267,11 @@ module _ {M : Type 1} {𝓤 : URA M} {H : Heap 𝓤} {A : Atoms 𝓤} {K : Type 
       opens t tt F.the-row {h = h} b o (λ vs. spelt t F.the-row (Is F.the-row) (shows 𝓤 H A F.the-row) vals tells fullShare h vs b o $
       move t (1 ∷ []) $ facts t F.the-row (Is F.the-row) (shows 𝓤 H A F.the-row) h (vals h) (λ was.
       -- [the follower's cell; the open borrow; obs; auth; the core's token; what it reads; _2; room for _c, _m, _0]
-      assigns t (of-opd t (load t (at t e₂ (hop t (look t 6 refl) (stop t))) (look-raw t zero refl))) (at t ec (stop t)) (init t 7 refl (typed 𝓤 H A W h was)) $
+      assigns t (of-opd t (load t (at t e₂ (hop t (look t 6 refl) (stop t))) (look-raw t zero refl)))
+      (at t ec (stop t)) (init t 7 refl (typed 𝓤 H A W h was)) $
       move t (4 ∷ 5 ∷ []) $ use2 W (raw (Core .pre x)) (asked was) $ calls-at t fm Core known x os (λ w.
-      use1 W (later (some (λ (n : Moved). ((‵ (flft κ q) ⊛ ‵ ftrue) ⊛ ‵ (R.the-row .own n (w ∷ []))) ⊛ some (λ u. raw (L u) ⊛ raw (fact 𝓤 (n ≡ a)))))) (says w) $
+      use1 W (later (some (λ (n : Moved). ((‵ (flft κ q) ⊛ ‵ ftrue) ⊛ ‵ (R.the-row .own n (w ∷ []))) ⊛ some
+      (λ u. raw (L u) ⊛ raw (fact 𝓤 (n ≡ a)))))) (says w) $
       await t tt $
       pick t (λ n. split t $ move t (1 ∷ []) $ pick t (λ u. split t $ drop t $ heard t (n ≡ a) (λ e. split t $ split t $ move t (2 ∷ []) $
       rewrite t zero (λ (z : Moved). ‵ (R.the-row .own z (w ∷ []))) e refl $
@@ -269,7 +279,8 @@ module _ {M : Type 1} {𝓤 : URA M} {H : Heap 𝓤} {A : Atoms 𝓤} {K : Type 
       -- [the token; the follower's cell; the open borrow; obs; auth; _2; _c; room for _m, _0]
       land t (at t em (stop t)) (init t 7 refl (moved-typed 𝓤 H A W a is)) $
       rewrite t 7 (λ (u : Val). ‵ (cell R′.mir lm u)) (ap only (LL.tells R.the-type R′.the-laws a _ is)) refl $
-      assigns t (of-opd t (load t (at t em (fld t refl (stop t))) (look-in t 7 (sub t 1 refl (whole t))))) (at t e₂ (hop t (look t 5 refl) (stop t)))
+      assigns t (of-opd t (load t (at t em (fld t refl (stop t))) (look-in t 7 (sub t 1 refl (whole t)))))
+      (at t e₂ (hop t (look t 5 refl) (stop t)))
       (store-raw t 1 refl (typed 𝓤 H A W (a .follower) (its-follower a is))) $
       assigns t (of-opd t (load t (at t em (fld t refl (stop t))) (look-in t 7 (sub t zero refl (whole t))))) (at t e₀ (stop t))
       (init t 8 refl (answer-typed 𝓤 H A W (a .answer) (its-answer a is))) $
@@ -283,17 +294,22 @@ module _ {M : Type 1} {𝓤 : URA M} {H : Heap 𝓤} {A : Atoms 𝓤} {K : Type 
   pub through-body : K → {C : Calls 𝓤 H} {Λ : Loops 𝓤 H} {Q : Val → SProp 𝓤} {x y r z : ℕ} {thin : Name} {xs : List Operand}
       {κ : Lft} {q : Share} {P : Fml} {ℓ : Lifetime} {τ : Ty} {l₀ l₂ lx ly lr lz : ℕ}
       → FmC 𝓤 H (W .laws) C → (Thin : Contract 𝓤) → Triple 𝓤 (C thin) Thin → (to : ℕ → GName → Thin .Ghost) (h : Follower) (a : Moved)
-      → At 𝓤 H E zero R′.mir l₀ → At 𝓤 H E 2 F′.mir l₂ → At 𝓤 H E x F′.mir lx → At 𝓤 H E y (tyRef ℓ mut τ) ly → At 𝓤 H E r S′.mir lr → At 𝓤 H E z F′.mir lz
+      → At 𝓤 H E zero R′.mir l₀ → At 𝓤 H E 2 F′.mir l₂ → At 𝓤 H E x F′.mir lx → At 𝓤 H E y (tyRef ℓ mut τ) ly
+      → At 𝓤 H E r S′.mir lr → At 𝓤 H E z F′.mir lz
       → IsFollower h
-      → ((ν : ℕ) (γ : GName) → ent 𝓤 (sep 𝓤 (sep 𝓤 (A .lft κ q) (A .lft (ν ∷ []) fullShare)) (sep 𝓤 (sem 𝓤 H A P) (sem 𝓤 H A (behind (ν ∷ []) lx zero γ h))))
+      → ((ν : ℕ) (γ : GName) → ent 𝓤 (sep 𝓤 (sep 𝓤 (A .lft κ q) (A .lft (ν ∷ []) fullShare))
+      (sep 𝓤 (sem 𝓤 H A P) (sem 𝓤 H A (behind (ν ∷ []) lx zero γ h))))
       (Thin .pre (to ν γ)))
       → (X : Type 0) (L : Fml)
       → ((ν : ℕ) (γ : GName) (w : Val) → ent 𝓤 (Thin .post (to ν γ) w)
-      (H .⇛ (ex 𝓤 (λ (n : Followed). sep 𝓤 (sep 𝓤 (sep 𝓤 (A .lft κ q) (sep 𝓤 (A .lft (ν ∷ []) fullShare) (emp 𝓤))) (sem 𝓤 H A (S.the-row .own n (w ∷ []))))
+      (H .⇛ (ex 𝓤 (λ (n : Followed). sep 𝓤 (sep 𝓤 (sep 𝓤 (A .lft κ q) (sep 𝓤 (A .lft (ν ∷ []) fullShare) (emp 𝓤)))
+      (sem 𝓤 H A (S.the-row .own n (w ∷ []))))
       (ex 𝓤 (λ (u : Unit {0} × (Follower × X)). sep 𝓤 (sem 𝓤 H A (fsep ftrue (fsep (fres γ (F.the-row .coded .code (u .1 .0))) L)))
       (fact 𝓤 ((n ≡ a .answer) × (u .1 .0 ≡ a .follower)))))))))
-      → ((ν : ℕ) (γ : GName) → Opds K W (raw (Thin .pre (to ν γ)) ∷ ‵ (flent (ν ∷ []) (Body (mem F.the-row) lx zero γ)) ∷ ‵ (cell F′.mir l₂ (val h))
-      ∷ ‵ (cell (tyRef ℓ mut τ) ly (vptr lx zero)) ∷ ‵ (room S′.mir lr) ∷ ‵ (room F′.mir lz) ∷ ‵ (room R′.mir l₀) ∷ Γ) E xs (Thin .args (to ν γ)))
+      → ((ν : ℕ) (γ : GName) → Opds K W (raw (Thin .pre (to ν γ)) ∷ ‵
+      (flent (ν ∷ []) (Body (mem F.the-row) lx zero γ)) ∷ ‵ (cell F′.mir l₂ (val h))
+      ∷ ‵ (cell (tyRef ℓ mut τ) ly (vptr lx zero)) ∷ ‵ (room S′.mir lr) ∷ ‵ (room F′.mir lz) ∷ ‵
+      (room R′.mir l₀) ∷ Γ) E xs (Thin .args (to ν γ)))
       → (IsMoved a → Seq K W (‵ (flft κ q) ∷ ‵ (room F′.mir lx) ∷ ‵ (room F′.mir l₂) ∷ ‵ (room (tyRef ℓ mut τ) ly)
       ∷ ‵ (room S′.mir lr) ∷ ‵ (room F′.mir lz) ∷ ‵ (room R′.mir l₀) ∷ Γ) (frees E (prop (Q (moved-val a)))))
       → Seq K W (‵ (flft κ q) ∷ ‵ P ∷ ‵ (cell F′.mir l₂ (val h)) ∷ ‵ (room F′.mir lx) ∷ ‵ (room (tyRef ℓ mut τ) ly)
@@ -312,24 +328,32 @@ module _ {M : Type 1} {𝓤 : URA M} {H : Heap 𝓤} {A : Atoms 𝓤} {K : Type 
       (lends-ref 𝓤 H A W F.the-row (named 1) (ν ∷ []) h lx zero) $
       await t tt $ pick t (λ γ. split t $
       -- [the reference; the lender's part; its token; the function's token; what is passed on; _2; _y; room for _r, _z, _0]
-      move t (3 ∷ 2 ∷ 4 ∷ 0 ∷ []) $ join t $ use3 W (raw (Thin .pre (to ν γ))) (asked ν γ) $ calls-at t fm Thin known (to ν γ) (os ν γ) (λ w.
+      move t (3 ∷ 2 ∷ 4 ∷ 0 ∷ []) $ join t $ use3 W (raw (Thin .pre (to ν γ)))
+      (asked ν γ) $ calls-at t fm Thin known (to ν γ) (os ν γ) (λ w.
       use1 W (later (some (λ (n : Followed). ((‵ (flft κ q) ⊛ ‵ (flft (ν ∷ []) fullShare) ⊛ ‵ ftrue) ⊛ ‵ (S.the-row .own n (w ∷ [])))
       ⊛ some (λ (u : Unit {0} × (Follower × X)). ‵ (fsep ftrue (fsep (fres γ (F.the-row .coded .code (u .1 .0))) L))
       ⊛ raw (fact 𝓤 ((n ≡ a .answer) × (u .1 .0 ≡ a .follower))))))) (says ν γ w) $
-      await t tt $ pick t (λ n. split t $ move t (1 ∷ []) $ pick t (λ u. split t $ move t (1 ∷ []) $ heard t ((n ≡ a .answer) × (u .1 .0 ≡ a .follower)) (λ e.
-      fsplit t $ drop t $ fsplit t $ rewrite t zero (λ (v : Follower). ‵ (fres γ (F.the-row .coded .code v))) (e .1) refl $ move t (1 ∷ []) $ drop t $
+      await t tt $ pick t (λ n. split t $ move t (1 ∷ []) $ pick t
+      (λ u. split t $ move t (1 ∷ []) $ heard t ((n ≡ a .answer) × (u .1 .0 ≡ a .follower)) (λ e.
+      fsplit t $ drop t $ fsplit t $ rewrite t zero (λ (v : Follower). ‵ (fres γ (F.the-row .coded .code v)))
+      (e .1) refl $ move t (1 ∷ []) $ drop t $
       move t (1 ∷ []) $ split t $ move t (1 ∷ []) $ rewrite t zero (λ (v : Followed). ‵ (S.the-row .own v (w ∷ []))) (e .0) refl $
       facts t S.the-row (Is S.the-row) (shows 𝓤 H A S.the-row) (a .answer) (w ∷ []) (λ isA.
       -- [the tokens; what the follower is at last; the lender's part; _2; …]. The lifetime is ended, and the local comes back
       split t $ move t (1 ∷ []) $ split t $ move t (1 ∷ []) $ drop t $ lft-end t tt $ move t (0 ∷ 3 ∷ 2 ∷ []) $
-      use3 W (later (‵ (mem F.the-row .lies (a .follower) lx zero))) (ref-back 𝓤 H A W F.the-row (ν ∷ []) γ (a .follower) lx zero) $ await t tt $
-      use1 W (‵ (F.the-row .own (a .follower) (vals (a .follower))) ⊛ ‵ (cell F′.mir lx (val (a .follower)))) (lay 𝓤 H A W (a .follower) lx zero) $ split t $
+      use3 W (later (‵ (mem F.the-row .lies (a .follower) lx zero)))
+      (ref-back 𝓤 H A W F.the-row (ν ∷ []) γ (a .follower) lx zero) $ await t tt $
+      use1 W (‵ (F.the-row .own (a .follower) (vals (a .follower))) ⊛ ‵ (cell F′.mir lx (val (a .follower))))
+      (lay 𝓤 H A W (a .follower) lx zero) $ split t $
       facts t F.the-row (Is F.the-row) (shows 𝓤 H A F.the-row) (a .follower) _ (λ isF.
       -- [_x; the function's token; _2; _y; room for _r, _z, _0]
       land t (at t er (stop t)) (init t 4 refl (answer-typed 𝓤 H A W (a .answer) isA)) $
       rewrite t 4 (λ (u : Val). ‵ (cell S′.mir lr u)) (ap only (EL.tells S.the-type S′.the-laws (a .answer) _ isA)) refl $
-      assigns t (of-opd t (load t (at t eˣ (stop t)) (look t zero refl))) (at t ez (stop t)) (init t 5 refl (typed 𝓤 H A W (a .follower) isF)) $
-      assigns t (agg t (and-then t (load t (at t er (stop t)) (look t 4 refl)) (and-then t (load t (at t ez (stop t)) (look t 5 refl)) (no-more t))))
+      assigns t (of-opd t (load t (at t eˣ (stop t)) (look t zero refl))) (at t ez (stop t))
+      (init t 5 refl (typed 𝓤 H A W (a .follower) isF)) $
+      assigns t (agg t (and-then t (load t (at t er (stop t)) (look t 4 refl))
+      (and-then t (load t (at t ez (stop t)) (look t 5 refl)) (no-more t))))
       (at t e₀ (stop t)) (init t 6 refl (moved-typed 𝓤 H A W a (of-fields a isA isF))) $
-      returned t e₀ (look t 6 refl) $ forget t zero refl $ forget t 2 refl $ forget t 3 refl $ forget t 4 refl $ forget t 5 refl $ forget t 6 refl $
+      returned t e₀ (look t 6 refl) $ forget t zero refl $ forget t 2 refl $ forget t 3 refl $ forget t 4 refl $
+      forget t 5 refl $ forget t 6 refl $
       move t (1 ∷ []) $ k (of-fields a isA isF)))))))))

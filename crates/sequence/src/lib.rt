@@ -41,7 +41,8 @@ pub extern "C" fn seq_remove(
     level: usize,
     standing: &mut [u8],
 ) -> Numbers
-    ensures { λ r. ⌜ (r ≡ removedNumbers (removalOf (now (chart .entry)) (now (labels .entry)) vertex level (now (standing .entry))))
+    ensures { λ r. ⌜ (r ≡ removedNumbers
+        (removalOf (now (chart .entry)) (now (labels .entry)) vertex level (now (standing .entry))))
         × (now (standing .exit)
         ≡ leftOf (now (chart .entry)) (now (labels .entry)) vertex level (now (standing .entry))) ⌝ }
 {

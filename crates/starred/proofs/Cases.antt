@@ -26,5 +26,11 @@ use Rattle.verdict.specs.Verdicts.{verdictOf}
 use Rattle.starred.specs.Cases.{nodesG, nodesTwice, nodesSum, chartG, labelsG, fileG, nested, nestedLabels, writtenG, writtenSum, callsG, answersG, cases, allHold}
 
 pub all-hold : allHold cases ≡ true
-unfolding cases nodesG nodesTwice nodesSum chartG labelsG fileG nested nestedLabels writtenG writtenSum callsG answersG verdictOf bodyAt offsetOf recordsOf recordsFrom recordStage relation.relationOf relation.relationOutcomeOf relation.strayBitTest relation.relatedTest relationOutcome failingPair pairOutcome unmatchedTest matchedTest labelling.labelledOf labelling.labellingOutcome labelling.loopsOf labelling.stepTest outcome loopsOutcome failingTest loopOutcome notLowerTest cycleTest unreachedTest bodyTest loopList loopTest anyTest reaches rounds values tests.someBelow tests.lowest tests.firstRow tests.rowPairs tests.pairsFrom tests.pairs chart.checkOf chart.headerOk chart.fitsAt chart.aboveAt chart.okAt chart.firstBad chart._and_ writtenOf bufferOf bodyOf chartOf flat fourOf nodes.checkOf nodes.misused nodes.malformed nodes.lowestFailing nodes.count nodes.node transitions collect edges after rise riseF uses up first down downF precedes sort insert leftOf clearedFrom removalOf ruledOf standsTest standingTest ruleAnswer strayTest aroundTest restartLent eventLent restartFrom eventOf bytesAfter answerOf setTest listFrom setBytes bytesFrom bitsOf transitionsOf transitionsFrom pick flatMap tests.someIn expr
+unfolding cases nodesG nodesTwice nodesSum chartG labelsG fileG nested nestedLabels writtenG writtenSum callsG
+    answersG verdictOf bodyAt offsetOf recordsOf recordsFrom recordStage
+    relation.relationOf relation.relationOutcomeOf relation.strayBitTest relation.relatedTest relationOutcome
+    failingPair pairOutcome unmatchedTest matchedTest
+    labelling.labelledOf labelling.labellingOutcome labelling.loopsOf labelling.stepTest outcome loopsOutcome
+    failingTest loopOutcome notLowerTest cycleTest unreachedTest bodyTest loopList loopTest anyTest reaches rounds
+    values tests.someBelow tests.lowest tests.firstRow tests.rowPairs tests.pairsFrom tests.pairs chart.checkOf chart.headerOk chart.fitsAt chart.aboveAt chart.okAt chart.firstBad chart._and_ writtenOf bufferOf bodyOf chartOf flat fourOf nodes.checkOf nodes.misused nodes.malformed nodes.lowestFailing nodes.count nodes.node transitions collect edges after rise riseF uses up first down downF precedes sort insert leftOf clearedFrom removalOf ruledOf standsTest standingTest ruleAnswer strayTest aroundTest restartLent eventLent restartFrom eventOf bytesAfter answerOf setTest listFrom setBytes bytesFrom bitsOf transitionsOf transitionsFrom pick flatMap tests.someIn expr
 all-hold = refl

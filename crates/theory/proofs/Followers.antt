@@ -138,6 +138,19 @@ module _ (rule : FollowerRule) (M : System) where
       → (xs ≡ ys) × (k′ ≡ l′) × SameMembers M P′ Q′
   follows-one s f g = let (e, k, m) = followers-agree (identity M) rule (lift-equal s) f g in (e, k, equal-lift m)
 
+  -- what is left may be said by any set with its members
+  pub responds-same : {P Q Z : StateSet M} {k l : rule .Kept} {c : rule .Call} {x : rule .Answer}
+      → SameMembers M Q Z → Responds rule M P k c x Q l → Responds rule M P k c x Z l
+  responds-same e r = record {
+    before = r .before;
+    after = r .after;
+    shown-before = r .shown-before;
+    shown-after = shows-carried (identity M) (lift-equal e) (r .shown-after);
+    members = λ y. Iff·trans (Iff·symm (e y)) (r .members y);
+    answer = r .answer;
+    kept = r .kept;
+  }
+
   pub one-answers : {k : rule .Kept} {cs : List (rule .Call)} {xs ys : List (rule .Answer)}
       → Answers rule M k cs xs → Answers rule M k cs ys → xs ≡ ys
   one-answers = fresh-agree (identity M) rule

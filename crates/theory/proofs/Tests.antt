@@ -107,7 +107,8 @@ decides-below {p} {P} d (suc n) = decides-same (to, from) (decides-or (d n) (dec
     from : (k : ℕ) × (k < suc n) × P k → P n ⊎ ((k : ℕ) × (k < n) × P k)
     from (k, h, q) = elim (ℕ-discrete k n) [ yes e ↦ inl (subst P e q) | no e ↦ inr (k, omega arith, q) ]
 
-pub decides-in : {A : Type 0} {p : A → Bool} {P : A → Type 0} → ((x : A) → Decides (p x) (P x)) → (l : List A) → Decides (someIn p l) ((x : A) × List·Memᴰ x l × P x)
+pub decides-in : {A : Type 0} {p : A → Bool} {P : A → Type 0} → ((x : A) → Decides (p x) (P x)) → (l : List A)
+    → Decides (someIn p l) ((x : A) × List·Memᴰ x l × P x)
 unfolding someIn
 decides-in d [] = ((λ e. absurd (false≢true e)), (λ (x, h, q). absurd (List·Memᴰ·not-nil h)))
 decides-in {A} {p} {P} d (y ∷ l) = decides-same (to, from) (decides-or (d y) (decides-in d l))

@@ -60,5 +60,6 @@ module _ {b labels : List ℕ} {v : ℕ} where
   }
 
 -- no vertex has an entry of a level above the highest label
-pub none-higher : {b labels entered : List ℕ} {top : ℕ} → Table 256 (Enters (StepsOf b labels)) entered → HighestByte labels top → NoneAbove entered top
+pub none-higher : {b labels entered : List ℕ} {top : ℕ} → Table 256 (Enters (StepsOf b labels)) entered
+    → HighestByte labels top → NoneAbove entered top
 none-higher T h x y a l g = let (p, w, s) = T .exactly x y l (g .below) .0 g in omega (arith, a, h .above (s .at), s .holds .is)

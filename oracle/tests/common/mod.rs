@@ -5,6 +5,18 @@ use oracle::plain::{Chart, Transition};
 use oracle::{fast, gen, plain, Answer};
 use std::thread;
 
+/// A test for each function that a module shares, of its name and with these
+/// arguments.
+#[allow(unused_macros)]
+macro_rules! tests_of {
+    ($module:ident: $($name:ident($($argument:expr),+);)+) => {
+        $(#[test]
+        fn $name() {
+            $module::$name($($argument),+);
+        })+
+    };
+}
+
 /// Document 01's file G.
 pub fn g() -> Yard {
     let mut relation = vec![0; 64];

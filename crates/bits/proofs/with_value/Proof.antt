@@ -16,7 +16,9 @@ cast-result : tie.Need-cast-result
 cast-result c = omega (arith, c .value .ensures, worth-high (c .before .args .i) (c .before .pre))
 
 returns : tie.Need-returns
-returns c = subst (λ (b : ℕ). With (c .before .args .byte) (c .before .args .i) (bitOr (c .before .args .byte) b)) (sym (c .value .ensures)) (with-law (c .before .args .byte) (c .before .args .i))
+returns c =
+    subst (λ (b : ℕ). With (c .before .args .byte) (c .before .args .i) (bitOr (c .before .args .byte) b))
+    (sym (c .value .ensures)) (with-law (c .before .args .byte) (c .before .args .i))
 
 pub with-value-spec : {M : Type 1} → statement M
 with-value-spec = tie.close (tie.spec value-requires cast-result returns)

@@ -15,7 +15,9 @@ use Rattle.chart.proofs.kept_row.Statement.{statement}
 use Rattle.chart.proofs.kept_row.Tie as tie
 
 abbrev Inv-loop : tie.InvT-loop
-Inv-loop body keep begins u end set₀ i₀ set i = WellFormed body × (countOf body ≤ length keep) × Begins body begins × (u < 128) × (end ≤ countOf body) × (i₀ ≤ i) × (i ≤ end) × Members (ViaBelow body (At keep 1) u i) set
+Inv-loop body keep begins u end set₀ i₀ set i =
+    WellFormed body × (countOf body ≤ length keep) × Begins body begins × (u < 128) × (end ≤ countOf body)
+    × (i₀ ≤ i) × (i ≤ end) × Members (ViaBelow body (At keep 1) u i) set
 
 abbrev μ-loop : tie.MeasureT-loop
 μ-loop body keep begins u end set₀ i₀ set i = end - i
@@ -40,8 +42,16 @@ element-copy-out-i c = search needs
 
 loop-holds : tie.Need-loop-holds Inv-loop μ-loop
 loop-holds c =
-    let p = c .before .before .before .before .before .pre in
-    (well-formed _ (p .0), p .1, p .2, p .3, begin-high (p .2) _ (p .3), le-refl _, begin-order (p .2) _ (p .3), via-none (p .2 .split _ (omega (arith, p .3))) (c .before .empty .ensures))
+    let p = c .before .before .before .before .before .pre in (
+      well-formed _ (p .0),
+      p .1,
+      p .2,
+      p .3,
+      begin-high (p .2) _ (p .3),
+      le-refl _,
+      begin-order (p .2) _ (p .3),
+      via-none (p .2 .split _ (omega (arith, p .3))) (c .before .empty .ensures),
+    )
 
 mul-byte : tie.Need-mul-byte Inv-loop μ-loop
 mul-byte c = search needs
@@ -75,8 +85,17 @@ loop-again c =
     let i = l .inv in
     let u = c .before .before .before .before .before .before .before .before .before .before .args .u in
     let t = c .before .before .before .loop-test .taken in
-    let leaves = at-mid (i .2 .split u (omega (arith, i .3))) (i .2 .split (u + 1) (omega (arith, i .3))) (l .i) (i .5) t in
-    (i .0, i .1, i .2, i .3, i .4, omega (arith, i .5), omega (arith, t), via-more (omega (arith, t, i .4)) leaves (sym (c .before .before .byte .ensures .0)) (decides-at 1 (c .before .byte2 .ensures .0)) (c .with-if .ensures) (i .7))
+    let leaves = at-mid (i .2 .split u (omega (arith, i .3))) (i .2 .split (u + 1) (omega (arith, i .3))) (l .i) (i .5) t in (
+      i .0,
+      i .1,
+      i .2,
+      i .3,
+      i .4,
+      omega (arith, i .5),
+      omega (arith, t),
+      via-more (omega (arith, t, i .4)) leaves
+          (sym (c .before .before .byte .ensures .0)) (decides-at 1 (c .before .byte2 .ensures .0)) (c .with-if .ensures) (i .7),
+    )
 
 returns : tie.Need-returns Inv-loop μ-loop
 returns c = let i = c .before .loop .inv in via-all (i .2 .split _ (omega (arith, i .3))) (c .loop-test .left) (i .7)

@@ -10,16 +10,28 @@ range-of-requires : tie.Need-range-of-requires
 range-of-requires c κs = search needs
 
 mul-a : tie.Need-mul-a
-mul-a c = let R = c .before .range-of .ensures in let W = well-formed _ (c .before .before .before .pre) in omega (arith, R .begins .within, R .ends .within, W .header .count-high)
+mul-a c =
+    let R = c .before .range-of .ensures in
+    let W = well-formed _ (c .before .before .before .pre) in
+    omega (arith, R .begins .within, R .ends .within, W .header .count-high)
 
 add-a : tie.Need-add-a
-add-a c = let R = c .before .range-of .ensures in let W = well-formed _ (c .before .before .before .pre) in omega (arith, R .begins .within, R .ends .within, W .header .count-high)
+add-a c =
+    let R = c .before .range-of .ensures in
+    let W = well-formed _ (c .before .before .before .pre) in
+    omega (arith, R .begins .within, R .ends .within, W .header .count-high)
 
 mul-e : tie.Need-mul-e
-mul-e c = let R = c .before .before .range-of .ensures in let W = well-formed _ (c .before .before .before .before .pre) in omega (arith, R .begins .within, R .ends .within, W .header .count-high)
+mul-e c =
+    let R = c .before .before .range-of .ensures in
+    let W = well-formed _ (c .before .before .before .before .pre) in
+    omega (arith, R .begins .within, R .ends .within, W .header .count-high)
 
 add-e : tie.Need-add-e
-add-e c = let R = c .before .before .range-of .ensures in let W = well-formed _ (c .before .before .before .before .pre) in omega (arith, R .begins .within, R .ends .within, W .header .count-high)
+add-e c =
+    let R = c .before .before .range-of .ensures in
+    let W = well-formed _ (c .before .before .before .before .pre) in
+    omega (arith, R .begins .within, R .ends .within, W .header .count-high)
 
 sub-result : tie.Need-sub-result
 sub-result c = let R = c .before .before .range-of .ensures in omega (arith, low-high (R .begins) (R .ends))
@@ -28,7 +40,10 @@ part-result-start : tie.Need-part-result-start
 part-result-start c = let R = c .before .before .range-of .ensures in omega (arith, low-high (R .begins) (R .ends))
 
 part-result-end : tie.Need-part-result-end
-part-result-end c = let R = c .before .before .range-of .ensures in let W = well-formed _ (c .before .before .before .before .pre) in omega (arith, R .begins .within, R .ends .within, W .header .count-high, W .header .whole)
+part-result-end c =
+    let R = c .before .before .range-of .ensures in
+    let W = well-formed _ (c .before .before .before .before .pre) in
+    omega (arith, R .begins .within, R .ends .within, W .header .count-high, W .header .whole)
 
 returns : tie.Need-returns
 returns c = let R = c .before .before .before .range-of .ensures in leaving-part _ _ _ _ _ (R .begins) (R .ends)

@@ -24,7 +24,9 @@ lower-requires-2 : tie.Need-lower-requires-2
 lower-requires-2 c κs = search needs
 
 returns-2 : tie.Need-returns-2
-returns-2 c = let n = c .before .before .before .before .count .ensures .0 in record { begins = rw n at (c .before .lower .ensures); ends = rw n at (c .lower2 .ensures) }
+returns-2 c =
+    let n = c .before .before .before .before .count .ensures .0 in
+    record { begins = rw n at (c .before .lower .ensures); ends = rw n at (c .lower2 .ensures) }
 
 pub range-of-spec : {M : Type 1} → statement M
 range-of-spec =

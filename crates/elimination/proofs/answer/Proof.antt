@@ -35,22 +35,36 @@ standing-fits-requires c κs = search needs
 
 returns-3 : tie.Need-returns-3
 returns-3 c =
-    let passed = sym (c .before .before .before .before .before .before .check .ensures) ∙ c .before .before .before .before .enum-told .given .1 in
+    let passed = sym (c .before .before .before .before .before .before .check .ensures)
+    ∙ c .before .before .before .before .enum-told .given .1 in
     let n = c .before .before .before .count .ensures .0 in
-    sym (removal-standing _ _ _ _ _ passed (c .before .before .if1 .left ∙ n) (λ f. true≢false (sym (c .before .standing-fits .ensures _ n .1 f) ∙ not-true _ (c .if2 .taken))))
+    sym (removal-standing _ _ _ _ _ passed (c .before .before .if1 .left ∙ n)
+    (λ f. true≢false (sym (c .before .standing-fits .ensures _ n .1 f) ∙ not-true _ (c .if2 .taken))))
 
 ruled-requires : tie.Need-ruled-requires
 ruled-requires c κs =
-    let passed = sym (c .before .before .before .before .before .before .check .ensures) ∙ c .before .before .before .before .enum-told .given .1 in
+    let passed = sym (c .before .before .before .before .before .before .check .ensures)
+    ∙ c .before .before .before .before .enum-told .given .1 in
     let n = c .before .before .before .count .ensures .0 in
-    record { formed = well-formed _ passed; each = c .before .before .if1 .left ∙ n; marked = c .before .standing-fits .ensures _ n .0 (not-false _ (c .if2 .left)) }
+    record {
+      formed = well-formed _ passed;
+      each = c .before .before .if1 .left ∙ n;
+      marked = c .before .standing-fits .ensures _ n .0 (not-false _ (c .if2 .left));
+    }
 
 returns-4 : tie.Need-returns-4
 returns-4 c =
-    let passed = sym (c .before .before .before .before .before .before .before .check .ensures) ∙ c .before .before .before .before .before .enum-told .given .1 in
+    let passed = sym (c .before .before .before .before .before .before .before .check .ensures)
+    ∙ c .before .before .before .before .before .enum-told .given .1 in
     let n = c .before .before .before .before .count .ensures .0 in
-    let F : Fits (c .before .before .before .before .before .before .before .before .before .before .before .args .chart .now) (c .before .before .before .before .before .before .before .before .before .before .before .args .labels .now) (c .before .before .before .before .before .before .before .before .before .before .before .args .standing .now) = record { formed = well-formed _ passed; each = c .before .before .before .if1 .left ∙ n; marked = c .before .before .standing-fits .ensures _ n .0 (not-false _ (c .before .if2 .left)) } in
-    let B : Bytes (c .before .before .before .before .before .before .before .before .before .before .before .args .labels .now) = λ k. omega (arith, c .before .before .before .before .before .before .before .before .before .shared-slice-known2 .given k) in
+    let given = c .before .before .before .before .before .before .before .before .before .before .before .args in
+    let F : Fits (given .chart .now) (given .labels .now) (given .standing .now) = record {
+      formed = well-formed _ passed;
+      each = c .before .before .before .if1 .left ∙ n;
+      marked = c .before .before .standing-fits .ensures _ n .0 (not-false _ (c .before .if2 .left));
+    } in
+    let B : Bytes (given .labels .now) =
+    λ k. omega (arith, c .before .before .before .before .before .before .before .before .before .shared-slice-known2 .given k) in
     let (a, e, r) = c .ruled .ensures in
     e ∙ sym (removal-ruled _ _ _ _ _ B F r)
 

@@ -31,7 +31,8 @@ returns-3 c =
     let F = c .before .before .before .before .before .before .walk .ensures in
     let s = c .before .before .before .before .before .if1 .left in
     let low = c .before .before .before .before .before .before .before .before .before .pre .2 in
-    third (F .body s .exactly _ low .0 (c .before .before .before .contains .ensures .0 (not-false _ (c .before .before .if2 .left)))) (F .none s)
+    third (F .body s .exactly _
+    low .0 (c .before .before .before .contains .ensures .0 (not-false _ (c .before .before .if2 .left)))) (F .none s)
     (F .body s .exactly 0 (omega arith) .0 (c .before .contains2 .ensures .0 (c .if3 .taken)))
 
 returns-4 : tie.Need-returns-4
@@ -39,7 +40,8 @@ returns-4 c =
     let F = c .before .before .before .before .before .before .walk .ensures in
     let s = c .before .before .before .before .before .if1 .left in
     let low = c .before .before .before .before .before .before .before .before .before .pre .2 in
-    none (F .body s .exactly _ low .0 (c .before .before .before .contains .ensures .0 (not-false _ (c .before .before .if2 .left)))) (F .none s)
+    none (F .body s .exactly _
+    low .0 (c .before .before .before .contains .ensures .0 (not-false _ (c .before .before .if2 .left)))) (F .none s)
     (λ r. true≢false (sym (c .before .contains2 .ensures .1 (F .body s .exactly 0 (omega arith) .1 r)) ∙ c .if3 .left))
 
 pub broken-spec : {M : Type 1} → statement M

@@ -11,7 +11,9 @@ use Rattle.elimination.proofs.clear.Statement.{statement}
 use Rattle.elimination.proofs.clear.Tie as tie
 
 abbrev Inv-loop : tie.InvT-loop
-Inv-loop chart labels v level standing₀ end i₀ standing i = (length labels ≡ countOf chart) × (length standing₀ ≡ countOf chart) × (end ≤ countOf chart) × (i₀ ≤ i) × (i ≤ end) × Clearing labels level i₀ i standing₀ standing
+Inv-loop chart labels v level standing₀ end i₀ standing i =
+    (length labels ≡ countOf chart) × (length standing₀ ≡ countOf chart) × (end ≤ countOf chart) × (i₀ ≤ i)
+    × (i ≤ end) × Clearing labels level i₀ i standing₀ standing
 
 abbrev μ-loop : tie.MeasureT-loop
 μ-loop chart labels v level standing₀ end i₀ standing i = end - i
@@ -35,7 +37,9 @@ cleared-requires : tie.Need-cleared-requires Inv-loop μ-loop
 cleared-requires c κs = search needs
 
 slice-write-standing : tie.Need-slice-write-standing Inv-loop μ-loop
-slice-write-standing c = let i = c .before .before .before .before .loop .inv in omega (arith, c .before .before .before .loop-test .taken, i .1, i .2, i .5 .long)
+slice-write-standing c =
+    let i = c .before .before .before .before .loop .inv in
+    omega (arith, c .before .before .before .loop-test .taken, i .1, i .2, i .5 .long)
 
 add-i : tie.Need-add-i Inv-loop μ-loop
 add-i c = search needs
@@ -47,14 +51,23 @@ loop-again : tie.Need-loop-again Inv-loop μ-loop
 loop-again c =
     let l = c .before .before .before .before .loop in
     let i = l .inv in
-    let t = c .before .before .before .loop-test .taken in
-    (i .0, i .1, i .2, omega (arith, i .3), omega (arith, t), clearing-more (i .5) (i .3) (omega (arith, t, i .1, i .2)) (c .before .byte .ensures .0) (c .cleared .ensures .0) (c .cleared .ensures .1))
+    let t = c .before .before .before .loop-test .taken in (
+      i .0,
+      i .1,
+      i .2,
+      omega (arith, i .3),
+      omega (arith, t),
+      clearing-more (i .5) (i .3)
+          (omega (arith, t, i .1, i .2)) (c .before .byte .ensures .0) (c .cleared .ensures .0) (c .cleared .ensures .1),
+    )
 
 same-length : tie.Need-same-length Inv-loop μ-loop
 same-length c = c .before .loop .inv .5 .long
 
 returns : tie.Need-returns Inv-loop μ-loop
-returns c = let i = c .before .loop .inv in clearing-all (c .before .before .range-of .ensures) (omega (arith, c .loop-test .left, i .4)) (i .5)
+returns c =
+    let i = c .before .loop .inv in
+    clearing-all (c .before .before .range-of .ensures) (omega (arith, c .loop-test .left, i .4)) (i .5)
 
 pub clear-spec : {M : Type 1} → statement M
 clear-spec =

@@ -14,7 +14,9 @@ use Rattle.elimination.proofs.entry_targets.Statement.{statement}
 use Rattle.elimination.proofs.entry_targets.Tie as tie
 
 abbrev Inv-loop : tie.InvT-loop
-Inv-loop chart labels v level standing set₀ end i₀ set i = Fits chart labels standing × (end ≤ countOf chart) × (i₀ ≤ i) × (i ≤ end) × Members (ViaBelow chart (Stands labels standing level) v i) set
+Inv-loop chart labels v level standing set₀ end i₀ set i =
+    Fits chart labels standing × (end ≤ countOf chart) × (i₀ ≤ i) × (i ≤ end)
+    × Members (ViaBelow chart (Stands labels standing level) v i) set
 
 abbrev μ-loop : tie.MeasureT-loop
 μ-loop chart labels v level standing set₀ end i₀ set i = end - i
@@ -30,8 +32,14 @@ range-of-requires c κs = passes _ (c .before .before .before .before .before .p
 
 loop-holds : tie.Need-loop-holds Inv-loop μ-loop
 loop-holds c =
-    let R = c .range-of .ensures in
-    (c .before .before .before .before .before .before .pre, R .ends .within, omega arith, low-high (R .begins) (R .ends), via-none (R .begins) (c .before .before .empty .ensures))
+    let R = c .range-of .ensures in (
+      c .before .before .before .before .before .before .pre,
+      R .ends .within,
+      omega arith,
+      low-high (R .begins)
+          (R .ends),
+      via-none (R .begins) (c .before .before .empty .ensures),
+    )
 
 mul-byte : tie.Need-mul-byte Inv-loop μ-loop
 mul-byte c = search needs
@@ -49,10 +57,15 @@ byte-requires-2 : tie.Need-byte-requires-2 Inv-loop μ-loop
 byte-requires-2 c κs = let i = c .before .before .loop .inv in omega (arith, c .before .loop-test .taken, i .1, i .0 .each)
 
 byte-requires-3 : tie.Need-byte-requires-3 Inv-loop μ-loop
-byte-requires-3 c κs = let i = c .before .before .before .loop .inv in omega (arith, c .before .before .loop-test .taken, i .1, i .0 .marked .long)
+byte-requires-3 c κs =
+    let i = c .before .before .before .loop .inv in
+    omega (arith, c .before .before .loop-test .taken, i .1, i .0 .marked .long)
 
 with-if-requires : tie.Need-with-if-requires Inv-loop μ-loop
-with-if-requires c κs = let l = c .before .before .before .before .loop in rw (c .before .before .byte .ensures .0) (to-low (l .inv .0 .formed) (l .i) (omega (arith, c .before .before .before .loop-test .taken, l .inv .1)))
+with-if-requires c κs =
+    let l = c .before .before .before .before .loop in
+    rw (c .before .before .byte .ensures .0) (to-low (l .inv .0 .formed) (l .i)
+    (omega (arith, c .before .before .before .loop-test .taken, l .inv .1)))
 
 add-i : tie.Need-add-i Inv-loop μ-loop
 add-i c = search needs
@@ -65,12 +78,20 @@ loop-again c =
     let l = c .before .before .before .before .before .loop in
     let i = l .inv in
     let t = c .before .before .before .before .loop-test .taken in
-    let R = c .before .before .before .before .before .before .range-of .ensures in
-    (i .0, i .1, omega (arith, i .2), omega (arith, t), via-more (omega (arith, t, i .1)) (at-mid (R .begins) (R .ends) (l .i) (i .2) t) (sym (c .before .before .before .byte .ensures .0)) (decides-stands _ (c .before .before .byte2 .ensures .0) (c .before .byte3 .ensures .0)) (c .with-if .ensures) (i .4))
+    let R = c .before .before .before .before .before .before .range-of .ensures in (
+      i .0,
+      i .1,
+      omega (arith, i .2),
+      omega (arith, t),
+      via-more (omega (arith, t, i .1))
+          (at-mid (R .begins) (R .ends) (l .i) (i .2) t) (sym (c .before .before .before .byte .ensures .0))
+          (decides-stands _ (c .before .before .byte2 .ensures .0) (c .before .byte3 .ensures .0)) (c .with-if .ensures) (i .4),
+    )
 
 returns-2 : tie.Need-returns-2 Inv-loop μ-loop
 returns-2 c =
-    entry-all (omega (arith, c .before .before .before .if1 .left)) (via-all (c .before .before .range-of .ensures .ends) (c .loop-test .left) (c .before .loop .inv .4))
+    entry-all (omega (arith, c .before .before .before .if1 .left))
+    (via-all (c .before .before .range-of .ensures .ends) (c .loop-test .left) (c .before .loop .inv .4))
 
 pub entry-targets-spec : {M : Type 1} → statement M
 entry-targets-spec =

@@ -12,15 +12,20 @@ is-done-requires : tie.Need-is-done-requires
 is-done-requires c κs = search needs
 
 clear-requires : tie.Need-clear-requires
-clear-requires c κs = done-fits _ _ _ _ _ (done-here _ _ _ _ _ (c .before .before .before .answer .ensures) (sym (c .before .before .is-done .ensures) ∙ c .before .if1 .taken))
+clear-requires c κs =
+    done-fits _ _ _ _ _ (done-here _ _ _ _ _ (c .before .before .before .answer .ensures)
+    (sym (c .before .before .is-done .ensures) ∙ c .before .if1 .taken))
 
 same-length : tie.Need-same-length
 same-length c = search needs
 
 returns : tie.Need-returns
 returns c =
-    let a = c .before .before .before .before .before .before .answer .ensures in
-    (a, left-cleared _ _ _ _ _ a (sym (c .before .before .before .before .before .is-done .ensures) ∙ c .before .before .before .before .if1 .taken) (c .before .before .clear .ensures))
+    let a = c .before .before .before .before .before .before .answer .ensures in (
+      a,
+      left-cleared _ _ _ _ _ a (sym (c .before .before .before .before .before .is-done .ensures)
+          ∙ c .before .before .before .before .if1 .taken) (c .before .before .clear .ensures),
+    )
 
 same-length-2 : tie.Need-same-length-2
 same-length-2 c = search needs

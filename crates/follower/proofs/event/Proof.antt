@@ -15,7 +15,11 @@ enum-told : tie.Need-enum-told
 enum-told c = search needs
 
 event-on-requires : tie.Need-event-on-requires
-event-on-requires c κs = (sym (c .before .before .check .ensures) ∙ c .enum-told .given .1, let l : length (c .before .before .before .before .args .follower .set) ≡ 16 = search needs in l)
+event-on-requires c κs = (
+  sym (c .before .before .check .ensures) ∙ c .enum-told .given .1,
+  let l : length
+      (c .before .before .before .before .args .follower .set) ≡ 16 = search needs in l,
+)
 
 returns : tie.Need-returns
 returns c = sym (event-refused _ _ _ (sym (c .before .before .before .check .ensures) ∙ c .before .place .given .1))

@@ -90,7 +90,8 @@ module _ {M : Type 1} (𝓤 : URA M) (H : Heap 𝓤) (A : Atoms 𝓤) (W : Given
       (λ κs. (shr-slice-tells (named 0) (κs .0) u8, (mut-tells (named 1) (κs .1 .0) F.the-row, (uint-tells w8, tt))))
       (λ κs qs bounds v _ are. via 𝓤 _ (fst∗ 𝓤 _ (emp 𝓤))
       (walk (κs .0) (κs .1 .0) (qs .0) (qs .1 .0) (v .0)
-      (v .1 .0 .ptr .0) (v .1 .0 .ptr .1) (v .1 .0 .name) (v .1 .0 .now) (v .1 .1 .0) (are .1 .1 .0 .1) (𝓣 .C) (𝓣 .Λ) (fmOf 𝓤 H (W .laws) 𝓣) known (are .0))))
+      (v .1 .0 .ptr .0) (v .1 .0 .ptr .1) (v .1 .0 .name) (v .1 .0 .now) (v .1 .1 .0) (are .1 .1 .0 .1) (𝓣 .C)
+      (𝓣 .Λ) (fmOf 𝓤 H (W .laws) 𝓣) known (are .0))))
 
 pub event-in-place-spec : {M : Type 1} → stated.statement M
 unfolding code.routine tablesOf

@@ -14,7 +14,8 @@ enum-known-place c = search needs
 
 returns : tie.Need-returns
 returns c =
-    let e = sym (event-lent-refused _ _ (c .before .before .before .before .before .before .args .action) (sym (c .before .before .before .check .ensures) ∙ c .before .place .given .1)) in
+    let e = sym (event-lent-refused _ _ (c .before .before .before .before .before .before .args .action)
+    (sym (c .before .before .before .check .ensures) ∙ c .before .place .given .1)) in
     (ap (λ (m : Moved). m .answer) e, ap (λ (m : Moved). m .follower .set) e)
 
 enum-told : tie.Need-enum-told
@@ -22,15 +23,19 @@ enum-told c = search needs
 
 returns-2 : tie.Need-returns-2
 returns-2 c =
-    let e = sym (event-lent-length _ _ (sym (c .before .before .before .check .ensures) ∙ c .before .enum-told .given .1) (c .before .before .before .before .before .before .args .action) (c .if1 .taken)) in
+    let e = sym (event-lent-length _ _ (sym (c .before .before .before .check .ensures)
+    ∙ c .before .enum-told .given .1) (c .before .before .before .before .before .before .args .action) (c .if1 .taken)) in
     (ap (λ (m : Moved). m .answer) e, ap (λ (m : Moved). m .follower .set) e)
 
 state-of-requires : tie.Need-state-of-requires
 state-of-requires c κs = search needs
 
 event-on-requires : tie.Need-event-on-requires
-event-on-requires c κs =
-    (sym (c .before .before .before .before .before .check .ensures) ∙ c .before .before .before .enum-told .given .1, ap length (c .state-of .ensures) ∙ c .before .before .if1 .left)
+event-on-requires c κs = (
+  sym (c .before .before .before .before .before .check .ensures)
+      ∙ c .before .before .before .enum-told .given .1,
+  ap length (c .state-of .ensures) ∙ c .before .before .if1 .left,
+)
 
 put-state-requires : tie.Need-put-state-requires
 put-state-requires c κs = search needs
@@ -41,7 +46,8 @@ same-length c = search needs
 returns-3 : tie.Need-returns-3
 returns-3 c =
     let o = c .before .before .before .before in
-    let passed = sym (o .before .before .before .before .before .before .check .ensures) ∙ o .before .before .before .before .enum-told .given .1 in
+    let passed = sym (o .before .before .before .before .before .before .check .ensures)
+    ∙ o .before .before .before .before .enum-told .given .1 in
     let e = event-lent-passed _ _ passed _ (o .before .before .before .if1 .left) (o .before .state-of .ensures) (o .event-on .ensures) in
     (ap (λ (m : Moved). m .answer) e, c .before .before .put-state .ensures ∙ ap (λ (m : Moved). m .follower .set) e)
 

@@ -24,8 +24,13 @@ set-fits-requires c κs = search needs
 returns : tie.Need-returns
 returns c =
     let a = c .before .before .before .before .before .before .before in
-    let B : Bytes (a .args .chart .now) = λ k. omega (arith, c .before .before .before .before .before .before .shared-slice-known .given k) in
-    sym (event-53 _ (a .pre .0) B (a .args .follower) (read-same (a .args .follower .set) (c .before .before .before .read-set .ensures)) _ (λ f. true≢false (sym (c .before .set-fits .ensures .1 (rw (c .before .before .byte .ensures .0) f)) ∙ not-true _ (c .if1 .taken))))
+    let B : Bytes (a .args .chart .now) = λ k. omega (
+      arith,
+      c .before .before .before .before .before .before .shared-slice-known .given k,
+    ) in
+    sym (event-53 _ (a .pre .0) B (a .args .follower)
+    (read-same (a .args .follower .set) (c .before .before .before .read-set .ensures)) _
+    (λ f. true≢false (sym (c .before .set-fits .ensures .1 (rw (c .before .before .byte .ensures .0) f)) ∙ not-true _ (c .if1 .taken))))
 
 begins-requires : tie.Need-begins-requires
 begins-requires c κs = search needs
@@ -46,9 +51,17 @@ returns-2 : tie.Need-returns-2
 returns-2 c =
     let a = c .before .before .before .before .before .before .before .before .before .before .before .before .before .before .before in
     let f = c .before .before .before .before .before .before .before .before .before in
-    let B : Bytes (a .args .chart .now) = λ k. omega (arith, c .before .before .before .before .before .before .before .before .before .before .before .before .before .before .shared-slice-known .given k) in
-    let fits = rw (f .before .byte .ensures .0) at (f .set-fits .ensures .0 (not-false _ (c .before .before .before .before .before .before .before .before .if1 .left))) in
-    event-stays _ (a .pre .0) B (a .args .follower) (read-same (a .args .follower .set) (f .before .before .read-set .ensures)) _ fits (c .before .before .before .before .before .image .ensures) (c .before .before .before .before .is-empty .ensures .0 (c .before .before .before .if2 .taken)) (c .contains .ensures) (c .before .count-offered .ensures)
+    let B : Bytes (a .args .chart .now) = λ k. omega (
+      arith,
+      c .before .before .before .before .before .before .before .before .before .before .before .before .before .before .shared-slice-known .given k,
+    ) in
+    let fits = rw (f .before .byte .ensures .0) at
+    (f .set-fits .ensures .0 (not-false _ (c .before .before .before .before .before .before .before .before .if1 .left))) in
+    event-stays _ (a .pre .0) B (a .args .follower)
+    (read-same (a .args .follower .set) (f .before .before .read-set .ensures)) _ fits
+    (c .before .before .before .before .before .image .ensures)
+    (c .before .before .before .before .is-empty .ensures .0 (c .before .before .before .if2 .taken))
+    (c .contains .ensures) (c .before .count-offered .ensures)
 
 count-offered-requires-2 : tie.Need-count-offered-requires-2
 count-offered-requires-2 c κs = search needs
@@ -63,9 +76,18 @@ returns-3 : tie.Need-returns-3
 returns-3 c =
     let a = c .before .before .before .before .before .before .before .before .before .before .before .before .before .before .before .before in
     let f = c .before .before .before .before .before .before .before .before .before .before in
-    let B : Bytes (a .args .chart .now) = λ k. omega (arith, c .before .before .before .before .before .before .before .before .before .before .before .before .before .before .before .shared-slice-known .given k) in
-    let fits = rw (f .before .byte .ensures .0) at (f .set-fits .ensures .0 (not-false _ (c .before .before .before .before .before .before .before .before .before .if1 .left))) in
-    event-moves _ (a .pre .0) B (a .args .follower) (read-same (a .args .follower .set) (f .before .before .read-set .ensures)) _ fits (c .before .before .before .before .before .before .image .ensures) (λ e. true≢false (sym (c .before .before .before .before .before .is-empty .ensures .1 e) ∙ c .before .before .before .before .if2 .left)) (c .contains2 .ensures) (c .before .before .count-offered2 .ensures) (c .before .set-bytes .ensures)
+    let B : Bytes (a .args .chart .now) = λ k. omega (
+      arith,
+      c .before .before .before .before .before .before .before .before .before .before .before .before .before .before .before .shared-slice-known .given k,
+    ) in
+    let fits = rw (f .before .byte .ensures .0) at
+    (f .set-fits .ensures .0 (not-false _ (c .before .before .before .before .before .before .before .before .before .if1 .left))) in
+    event-moves _ (a .pre .0) B (a .args .follower)
+    (read-same (a .args .follower .set) (f .before .before .read-set .ensures)) _ fits
+    (c .before .before .before .before .before .before .image .ensures)
+    (λ e. true≢false (sym (c .before .before .before .before .before .is-empty .ensures .1 e)
+    ∙ c .before .before .before .before .if2 .left)) (c .contains2 .ensures)
+    (c .before .before .count-offered2 .ensures) (c .before .set-bytes .ensures)
 
 pub event-on-spec : {M : Type 1} → statement M
 event-on-spec =

@@ -45,7 +45,16 @@ module _ {M : Type 1} (𝓤 : URA M) (H : Heap 𝓤) (A : Atoms 𝓤) (W : Given
     y = (((κ, tt), (q, tt), tt, (s, (h, (n, tt))), (slice s ∷ [], (vals h, (vint w8 n ∷ [], tt)))), tt)
 
     abbrev x : ℕ → ℕ → GName → Thin 𝓤 H A mem run .Ghost
-    x l ν γ = (((κ, (ν ∷ [], tt)), (q, (fullShare, tt)), tt, (s, (lent l 0 γ h, (n, tt))), (slice s ∷ [], (vptr l 0 ∷ [], (vint w8 n ∷ [], tt)))), tt)
+    x l ν γ = (
+      (
+        (κ, (ν ∷ [], tt)),
+        (q, (fullShare, tt)),
+        tt,
+        (s, (lent l 0 γ h, (n, tt))),
+        (slice s ∷ [], (vptr l 0 ∷ [], (vint w8 n ∷ [], tt))),
+      ),
+      tt,
+    )
 
     abbrev Post : Val → SProp 𝓤
     Post = walkOf 𝓤 H A f.ended stayed (f.clauses 𝓤 H A mem run) .post y
@@ -62,11 +71,13 @@ module _ {M : Type 1} (𝓤 : URA M) (H : Heap 𝓤) (A : Atoms 𝓤) (W : Given
           (WpFn 𝓤 H C Λ code.function (slice s ∷ val h ∷ vint w8 n ∷ []) Post)
       walk p = via 𝓤 _ (through-begins 𝓤 H A W κ q s h (number n)) (
           qed W (‵ (flft κ q) ∷ ‵ (chart κ s) ∷ []) ∵ enter ! C Λ code.function (slice s ∷ val h ∷ vint w8 n ∷ []) _ $
-          alloc1 ! (λ l₀. alloc1 ! (λ l₁. alloc1 ! (λ l₂. alloc1 ! (λ l₃. alloc1 ! (λ l₄. alloc1 ! (λ l₅. alloc1 ! (λ l₆. alloc1 ! (λ l₇. alloc0 ! $ params1 ! $
+          alloc1 ! (λ l₀. alloc1 !
+          (λ l₁. alloc1 ! (λ l₂. alloc1 ! (λ l₃. alloc1 ! (λ l₄. alloc1 ! (λ l₅. alloc1 ! (λ l₆. alloc1 ! (λ l₇. alloc0 ! $ params1 ! $
           pass1 ! (init ! 12 refl (shr-slice-lawful 𝓤 H A W (named 0) κ u8 .typed s (slice s ∷ []) p .0)) $
           pass1 ! (init ! 10 refl (typed 𝓤 H A W h was)) $ pass1 ! (init ! 8 refl (tt, record { fits = fits })) $ pass0 ! $
           -- [room for _7; what frees it; _6; …; _5; …; _4; …; _3; …; _2; …; _1; …; room for _0; …; the token; the chart]
-          move ! (16 ∷ 17 ∷ 10 ∷ 6 ∷ 2 ∷ 4 ∷ 0 ∷ 14 ∷ []) $ through-body ! fm (Thin 𝓤 H A mem run) known (x l₄) h a refl refl refl refl refl refl was
+          move ! (16 ∷ 17 ∷ 10 ∷ 6 ∷ 2 ∷ 4 ∷ 0 ∷ 14 ∷ []) $ through-body ! fm (Thin 𝓤 H A mem run) known
+          (x l₄) h a refl refl refl refl refl refl was
           (λ ν γ. thin-asked 𝓤 H A W κ q (ν ∷ []) fullShare l₄ 0 γ s h (number n) (numbered 𝓤 H A W n fits))
           (Unit {0} × Unit {0}) (fsep ftrue ftrue) (λ ν γ w. id⊢ 𝓤 _)
           (λ ν γ. and-then ! (local ! 14 refl) (and-then ! (local ! 3 refl) (and-then ! (local ! 11 refl) (no-more !)))) (λ is.
@@ -89,7 +100,8 @@ module _ {M : Type 1} (𝓤 : URA M) (H : Heap 𝓤) (A : Atoms 𝓤) (W : Given
       (λ κs. (slice-vals, (vals, (uint-vals w8, tt))))
       (λ κs. (shr-slice-tells (named 0) (κs .0) u8, (tells, (uint-tells w8, tt))))
       (λ κs qs bounds v _ are. via 𝓤 _ (fst∗ 𝓤 _ (emp 𝓤))
-      (walk (κs .0) (qs .0) (v .0) (v .1 .0) (are .1 .0) (v .1 .1 .0) (are .1 .1 .0 .1) (𝓣 .C) (𝓣 .Λ) (fmOf 𝓤 H (W .laws) 𝓣) known (are .0))))
+      (walk (κs .0) (qs .0) (v .0) (v .1 .0) (are .1 .0) (v .1 .1 .0) (are .1 .1 .0 .1) (𝓣 .C) (𝓣 .Λ)
+      (fmOf 𝓤 H (W .laws) 𝓣) known (are .0))))
 
 pub event-through-spec : {M : Type 1} → stated.statement M
 unfolding code.routine tablesOf
@@ -97,4 +109,5 @@ event-through-spec 𝓤 H 𝓜 𝓖 𝓡 =
     entered 𝓤 H (tripleOf 𝓤 H (𝓖 .A) f.signature (f.spec 𝓤 H (𝓖 .A) (𝓜 .mem) (𝓡 .run)))
     (tables 𝓤 H 𝓜 𝓡 code.env .C) (tables 𝓤 H 𝓜 𝓡 code.env .Λ) #through code.function (code.unfolded 𝓤 H 𝓜 𝓡)
     (meets 𝓤 H (𝓖 .A) (givenOf 𝓤 H 𝓜 𝓖) (𝓜 .mem) (𝓡 .run) (tablesOf 𝓤 H 𝓜 (tables 𝓤 H 𝓜 𝓡 code.env))
-    (cited 𝓤 H (Thin 𝓤 H (𝓖 .A) (𝓜 .mem) (𝓡 .run)) 𝓜 𝓡 code.env #thin g-def.routine code.calls-follower·event-in-place (g-thm.met 𝓤 H 𝓜 𝓖 𝓡)))
+    (cited 𝓤 H (Thin 𝓤 H (𝓖 .A) (𝓜 .mem) (𝓡 .run)) 𝓜 𝓡 code.env #thin
+    g-def.routine code.calls-follower·event-in-place (g-thm.met 𝓤 H 𝓜 𝓖 𝓡)))

@@ -20,7 +20,8 @@ returns : tie.Need-returns
 returns c = sym (restart-refused _ _ (sym (c .before .before .before .check .ensures) ∙ c .before .place .given .1))
 
 returns-2 : tie.Need-returns-2
-returns-2 c = c .restart-on .ensures ∙ sym (restart-passed _ _ (sym (c .before .before .before .check .ensures) ∙ c .before .enum-told .given .1))
+returns-2 c =
+    c .restart-on .ensures ∙ sym (restart-passed _ _ (sym (c .before .before .before .check .ensures) ∙ c .before .enum-told .given .1))
 
 pub restart-from-spec : {M : Type 1} → statement M
 restart-from-spec =

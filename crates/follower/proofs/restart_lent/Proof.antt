@@ -21,7 +21,8 @@ enum-told c = search needs
 
 returns-2 : tie.Need-returns-2
 returns-2 c =
-    let e = sym (restart-lent-length _ _ (sym (c .before .before .before .check .ensures) ∙ c .before .enum-told .given .1) (c .if1 .taken)) in
+    let e = sym (restart-lent-length _ _ (sym (c .before .before .before .check .ensures)
+    ∙ c .before .enum-told .given .1) (c .if1 .taken)) in
     (ap (λ (m : Moved). m .answer) e, ap (λ (m : Moved). m .follower .set) e)
 
 restart-on-requires : tie.Need-restart-on-requires

@@ -13,7 +13,9 @@ byte-requires : tie.Need-byte-requires
 byte-requires c κs = let W = well-formed _ (c .before .before .pre) in omega (arith, W .header .long)
 
 with-requires : tie.Need-with-requires
-with-requires c κs = let W = well-formed _ (c .before .before .before .pre) in omega (arith, c .byte .ensures .0, W .header .start-high, W .header .vertices-high)
+with-requires c κs =
+    let W = well-formed _ (c .before .before .before .pre) in
+    omega (arith, c .byte .ensures .0, W .header .start-high, W .header .vertices-high)
 
 begins-requires : tie.Need-begins-requires
 begins-requires c κs = search needs
@@ -30,8 +32,15 @@ contains-requires c κs = search needs
 returns : tie.Need-returns
 returns c =
     let a = c .before .before .before .before .before .before .before .before .before in
-    let B : Bytes (a .args .chart .now) = λ k. omega (arith, c .before .before .before .before .before .before .before .before .shared-slice-known .given k) in
-    restart-moves _ (a .pre) B (only-start (a .args .chart .now) (c .before .before .before .before .before .before .before .empty .ensures) (c .before .before .before .before .before .before .byte .ensures .0) (c .before .before .before .before .before .with .ensures)) (c .contains .ensures) (c .before .before .count-offered .ensures) (c .before .set-bytes .ensures)
+    let B : Bytes (a .args .chart .now) = λ k. omega (
+      arith,
+      c .before .before .before .before .before .before .before .before .shared-slice-known .given k,
+    ) in
+    restart-moves _ (a .pre) B (only-start (a .args .chart .now)
+    (c .before .before .before .before .before .before .before .empty .ensures)
+    (c .before .before .before .before .before .before .byte .ensures .0)
+    (c .before .before .before .before .before .with .ensures)) (c .contains .ensures)
+    (c .before .before .count-offered .ensures) (c .before .set-bytes .ensures)
 
 pub restart-on-spec : {M : Type 1} → statement M
 restart-on-spec =

@@ -60,11 +60,13 @@ module _ {M : Type 1} (𝓤 : URA M) (H : Heap 𝓤) (A : Atoms 𝓤) (W : Given
           (WpFn 𝓤 H C Λ code.function (slice s ∷ val h ∷ []) Post)
       walk p = via 𝓤 _ (through-begins 𝓤 H A W κ q s h ftrue) (
           qed W (‵ (flft κ q) ∷ ‵ (chart κ s) ∷ []) ∵ enter ! C Λ code.function (slice s ∷ val h ∷ []) _ $
-          alloc1 ! (λ l₀. alloc1 ! (λ l₁. alloc1 ! (λ l₂. alloc1 ! (λ l₃. alloc1 ! (λ l₄. alloc1 ! (λ l₅. alloc1 ! (λ l₆. alloc0 ! $ params1 ! $
+          alloc1 ! (λ l₀. alloc1 !
+          (λ l₁. alloc1 ! (λ l₂. alloc1 ! (λ l₃. alloc1 ! (λ l₄. alloc1 ! (λ l₅. alloc1 ! (λ l₆. alloc0 ! $ params1 ! $
           pass1 ! (init ! 10 refl (shr-slice-lawful 𝓤 H A W (named 0) κ u8 .typed s (slice s ∷ []) p .0)) $
           pass1 ! (init ! 8 refl (typed 𝓤 H A W h was)) $ pass0 ! $
           -- [room for _6; what frees it; _5; …; _4; …; _3; …; _2; …; _1; …; room for _0; …; the token; the chart]
-          move ! (14 ∷ 15 ∷ 8 ∷ 6 ∷ 2 ∷ 4 ∷ 0 ∷ 12 ∷ []) $ through-body ! fm (Thin 𝓤 H A mem run) known (x l₃) h a refl refl refl refl refl refl was
+          move ! (14 ∷ 15 ∷ 8 ∷ 6 ∷ 2 ∷ 4 ∷ 0 ∷ 12 ∷ []) $ through-body ! fm (Thin 𝓤 H A mem run) known
+          (x l₃) h a refl refl refl refl refl refl was
           (λ ν γ. thin-asked 𝓤 H A W κ q (ν ∷ []) fullShare l₃ 0 γ s h ftrue (id⊢ 𝓤 (emp 𝓤)))
           (Unit {0}) ftrue (λ ν γ w. id⊢ 𝓤 _)
           (λ ν γ. and-then ! (local ! 12 refl) (and-then ! (local ! 3 refl) (no-more !))) (λ is.
@@ -92,4 +94,5 @@ restart-through-spec 𝓤 H 𝓜 𝓖 𝓡 =
     entered 𝓤 H (tripleOf 𝓤 H (𝓖 .A) f.signature (f.spec 𝓤 H (𝓖 .A) (𝓜 .mem) (𝓡 .run)))
     (tables 𝓤 H 𝓜 𝓡 code.env .C) (tables 𝓤 H 𝓜 𝓡 code.env .Λ) #through code.function (code.unfolded 𝓤 H 𝓜 𝓡)
     (meets 𝓤 H (𝓖 .A) (givenOf 𝓤 H 𝓜 𝓖) (𝓜 .mem) (𝓡 .run) (tablesOf 𝓤 H 𝓜 (tables 𝓤 H 𝓜 𝓡 code.env))
-    (cited 𝓤 H (Thin 𝓤 H (𝓖 .A) (𝓜 .mem) (𝓡 .run)) 𝓜 𝓡 code.env #thin g-def.routine code.calls-follower·restart-in-place (g-thm.met 𝓤 H 𝓜 𝓖 𝓡)))
+    (cited 𝓤 H (Thin 𝓤 H (𝓖 .A) (𝓜 .mem) (𝓡 .run)) 𝓜 𝓡 code.env #thin
+    g-def.routine code.calls-follower·restart-in-place (g-thm.met 𝓤 H 𝓜 𝓖 𝓡)))

@@ -29,7 +29,9 @@ loop-less : tie.Need-loop-less Inv-loop μ-loop
 loop-less c = search needs
 
 loop-again : tie.Need-loop-again Inv-loop μ-loop
-loop-again c = let i = c .before .before .loop .inv in (i .0, omega (arith, c .before .loop-test .taken), copied-more (c .before .loop-test .taken) (i .2))
+loop-again c =
+    let i = c .before .before .loop .inv in
+    (i .0, omega (arith, c .before .loop-test .taken), copied-more (c .before .loop-test .taken) (i .2))
 
 returns : tie.Need-returns Inv-loop μ-loop
 returns c = let i = c .before .loop .inv in copied-all (i .0) (c .loop-test .left) (i .2)

@@ -35,10 +35,14 @@ four-numbers-requires-3 : tie.Need-four-numbers-requires-3
 four-numbers-requires-3 c κs = search needs
 
 returns : tie.Need-returns
-returns c = c .four-numbers .ensures ∙ ap (λ e. four 0 1 e (c .before .before .before .followed .given .0 .1 .0)) (c .before .flag-number .ensures) ∙ sym (ap followedNumbers (c .before .before .before .followed .given .1))
+returns c =
+    c .four-numbers .ensures ∙ ap (λ e. four 0 1 e (c .before .before .before .followed .given .0 .1 .0))
+    (c .before .flag-number .ensures) ∙ sym (ap followedNumbers (c .before .before .before .followed .given .1))
 
 returns-2 : tie.Need-returns-2
-returns-2 c = c .four-numbers2 .ensures ∙ ap (λ e. four 0 0 e (c .before .before .before .followed2 .given .0 .1 .0)) (c .before .flag-number2 .ensures) ∙ sym (ap followedNumbers (c .before .before .before .followed2 .given .1))
+returns-2 c =
+    c .four-numbers2 .ensures ∙ ap (λ e. four 0 0 e (c .before .before .before .followed2 .given .0 .1 .0))
+    (c .before .flag-number2 .ensures) ∙ sym (ap followedNumbers (c .before .before .before .followed2 .given .1))
 
 returns-3 : tie.Need-returns-3
 returns-3 c = c .place-numbers .ensures ∙ sym (ap followedNumbers (c .before .before .followed3 .given .1))

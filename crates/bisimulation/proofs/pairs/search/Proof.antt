@@ -16,7 +16,10 @@ use Rattle.bisimulation.proofs.pairs.search.Statement.{statement}
 use Rattle.bisimulation.proofs.pairs.search.Tie as tie
 
 abbrev Inv-loop : tie.InvT-loop
-Inv-loop into acting words table body begins vertices set u₀ u = Ready into acting words body begins × (length table ≡ 256) × (vertices ≤ 128) × Members (InFirst table 128) set × ((e relation : List ℕ) → Sought into acting words table body e relation → (a : ℕ) → a < u → (w : ℕ) → Related relation a w → Passes e body relation a w)
+Inv-loop into acting words table body begins vertices set u₀ u =
+    Ready into acting words body begins × (length table ≡ 256) × (vertices ≤ 128) × Members (InFirst table 128) set
+    × ((e relation : List ℕ) → Sought into acting words table body e relation → (a : ℕ) → a < u → (w : ℕ)
+    → Related relation a w → Passes e body relation a w)
 
 abbrev μ-loop : tie.MeasureT-loop
 μ-loop into acting words table body begins vertices set u₀ u = vertices - u
@@ -33,7 +36,9 @@ returns c = λ e relation S q z.
     (related, all-pass z (λ u. suspects-clear S (c .before .before .union-of .ensures) u (f u)), refl)
 
 loop-holds : tie.Need-loop-holds Inv-loop μ-loop
-loop-holds c = let p = c .before .before .before .before .before .pre in (p .0, p .1, p .2, c .before .before .union-of .ensures, λ e relation S a h. absurd (omega arith))
+loop-holds c =
+    let p = c .before .before .before .before .before .pre in
+    (p .0, p .1, p .2, c .before .before .union-of .ensures, λ e relation S a h. absurd (omega arith))
 
 suspect-row-requires : tie.Need-suspect-row-requires Inv-loop μ-loop
 suspect-row-requires c κs = let i = c .before .loop .inv in (i .0, i .1, omega (arith, i .2, c .loop-test .taken), i .3)

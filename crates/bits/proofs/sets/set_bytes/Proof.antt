@@ -23,24 +23,33 @@ lowest-requires : tie.Need-lowest-requires Inv-loop μ-loop
 lowest-requires c κs = search needs
 
 array-read-with-value : tie.Need-array-read-with-value Inv-loop μ-loop
-array-read-with-value c = let l = found (c .before .before .is-empty .ensures) (c .before .if1 .taken) (c .lowest .ensures) .below in omega (arith, l)
+array-read-with-value c =
+    let l = found (c .before .before .is-empty .ensures) (c .before .if1 .taken) (c .lowest .ensures) .below in
+    omega (arith, l)
 
 with-value-requires : tie.Need-with-value-requires Inv-loop μ-loop
 with-value-requires c κs = omega arith
 
 array-write-bytes : tie.Need-array-write-bytes Inv-loop μ-loop
-array-write-bytes c = let l = found (c .before .before .before .is-empty .ensures) (c .before .before .if1 .taken) (c .before .lowest .ensures) .below in omega (arith, l)
+array-write-bytes c =
+    let l = found (c .before .before .before .is-empty .ensures) (c .before .before .if1 .taken) (c .before .lowest .ensures) .below in
+    omega (arith, l)
 
 without-requires : tie.Need-without-requires Inv-loop μ-loop
-without-requires c κs = found (c .before .before .before .is-empty .ensures) (c .before .before .if1 .taken) (c .before .lowest .ensures) .below
+without-requires c κs =
+    found (c .before .before .before .is-empty .ensures) (c .before .before .if1 .taken) (c .before .lowest .ensures) .below
 
 loop-less : tie.Need-loop-less Inv-loop μ-loop
-loop-less c = visit-less (visited (c .before .before .before .before .before .loop .inv .0) (found (c .before .before .before .before .is-empty .ensures) (c .before .before .before .if1 .taken) (c .before .before .lowest .ensures)) (c .without .ensures))
+loop-less c =
+    visit-less (visited (c .before .before .before .before .before .loop .inv .0)
+    (found (c .before .before .before .before .is-empty .ensures) (c .before .before .before .if1 .taken)
+    (c .before .before .lowest .ensures)) (c .without .ensures))
 
 loop-again : tie.Need-loop-again Inv-loop μ-loop
 loop-again c =
     let i = c .before .before .before .before .before .loop .inv in
-    let T = visited (i .0) (found (c .before .before .before .before .is-empty .ensures) (c .before .before .before .if1 .taken) (c .before .before .lowest .ensures)) (c .without .ensures) in
+    let T = visited (i .0) (found (c .before .before .before .before .is-empty .ensures)
+    (c .before .before .before .if1 .taken) (c .before .before .lowest .ensures)) (c .without .ensures) in
     (λ x h. i .0 x (T .rest x .0 h .0), writing-more T (c .before .with-value .ensures) (omega (arith, c .before .with-value .ok)) (i .1))
 
 returns : tie.Need-returns Inv-loop μ-loop

@@ -34,7 +34,9 @@ loop-less : tie.Need-loop-less Inv-loop μ-loop
 loop-less c = search needs
 
 loop-again : tie.Need-loop-again Inv-loop μ-loop
-loop-again c = let i = c .before .before .before .loop .inv in (i .0, omega arith, union-more _ _ (i .2) (c .before .row .ensures) (c .union .ensures))
+loop-again c =
+    let i = c .before .before .before .loop .inv in
+    (i .0, omega arith, union-more _ _ (i .2) (c .before .row .ensures) (c .union .ensures))
 
 returns : tie.Need-returns Inv-loop μ-loop
 returns c = let e : c .before .loop .v ≡ c .before .before .before .before .args .n = omega arith in rw e at (c .before .loop .inv .2)

@@ -16,7 +16,9 @@ use Rattle.chart.proofs.images.action_row.Statement.{statement}
 use Rattle.chart.proofs.images.action_row.Tie as tie
 
 abbrev Inv-loop : tie.InvT-loop
-Inv-loop body begins u action end set₀ i₀ set i = WellFormed body × Begins body begins × (u < 128) × (end ≤ countOf body) × (getD begins u 0 ≤ i) × (i ≤ end) × Bytes body × Stretch body u (getD begins u 0) end × Members (ViaBelow body (Acts body action) u i) set
+Inv-loop body begins u action end set₀ i₀ set i =
+    WellFormed body × Begins body begins × (u < 128) × (end ≤ countOf body) × (getD begins u 0 ≤ i) × (i ≤ end)
+    × Bytes body × Stretch body u (getD begins u 0) end × Members (ViaBelow body (Acts body action) u i) set
 
 abbrev μ-loop : tie.MeasureT-loop
 μ-loop body begins u action end set₀ i₀ set i = end - i
@@ -46,9 +48,21 @@ loop-holds : tie.Need-loop-holds Inv-loop μ-loop
 loop-holds c =
     let p = c .before .before .before .before .before .pre in
     let S = row-stretch (p .0) (p .1) (p .2) in
-    let B : Bytes (c .before .before .before .before .before .args .body .now) = λ k. omega (arith, c .before .before .before .before .shared-slice-known .given k) in
-    let L = c .skip-lower .ensures in
-    (well-formed _ (p .0), p .1, p .2, S .within, L .from, L .to, B, S, via-nothing (lower-nothing B S L (p .1 .split _ (omega (arith, p .2)))) (c .before .before .empty .ensures))
+    let B : Bytes (c .before .before .before .before .before .args .body .now) = λ k. omega (
+      arith,
+      c .before .before .before .before .shared-slice-known .given k,
+    ) in
+    let L = c .skip-lower .ensures in (
+      well-formed _ (p .0),
+      p .1,
+      p .2,
+      S .within,
+      L .from,
+      L .to,
+      B,
+      S,
+      via-nothing (lower-nothing B S L (p .1 .split _ (omega (arith, p .2)))) (c .before .before .empty .ensures),
+    )
 
 mul-byte : tie.Need-mul-byte Inv-loop μ-loop
 mul-byte c = search needs
@@ -66,7 +80,8 @@ returns : tie.Need-returns Inv-loop μ-loop
 returns c =
     let l = c .before .before .before .loop in
     let i = l .inv in
-    via-rest (higher-rest (i .6) (i .7) (i .4) (c .before .before .loop-test .taken) (c .before .byte .ensures .0) (omega (arith, c .if1 .taken)) (i .1 .split _ (omega (arith, i .2)))) (i .8)
+    via-rest (higher-rest (i .6) (i .7) (i .4) (c .before .before .loop-test .taken) (c .before .byte .ensures .0)
+    (omega (arith, c .if1 .taken)) (i .1 .split _ (omega (arith, i .2)))) (i .8)
 
 mul-byte-2 : tie.Need-mul-byte-2 Inv-loop μ-loop
 mul-byte-2 c = search needs
@@ -95,8 +110,19 @@ loop-again : tie.Need-loop-again Inv-loop μ-loop
 loop-again c =
     let l = c .before .before .before .before .before .loop in
     let i = l .inv in
-    let t = c .before .before .before .before .loop-test .taken in
-    (i .0, i .1, i .2, i .3, omega (arith, i .4), omega (arith, t), i .6, i .7, via-more (omega (arith, t, i .3)) (i .7 .leaves (l .i) (i .4) t) (sym (c .before .byte2 .ensures .0)) (decides-acts _ (c .before .before .before .byte .ensures .0)) (c .with-if .ensures) (i .8))
+    let t = c .before .before .before .before .loop-test .taken in (
+      i .0,
+      i .1,
+      i .2,
+      i .3,
+      omega (arith, i .4),
+      omega (arith, t),
+      i .6,
+      i .7,
+      via-more (omega (arith, t, i .3))
+          (i .7 .leaves (l .i) (i .4) t) (sym (c .before .byte2 .ensures .0))
+          (decides-acts _ (c .before .before .before .byte .ensures .0)) (c .with-if .ensures) (i .8),
+    )
 
 returns-2 : tie.Need-returns-2 Inv-loop μ-loop
 returns-2 c = let i = c .before .loop .inv in via-all (i .1 .split _ (omega (arith, i .2))) (c .loop-test .left) (i .8)

@@ -11,7 +11,9 @@ use Rattle.chart.proofs.images.count_marks.Statement.{statement}
 use Rattle.chart.proofs.images.count_marks.Tie as tie
 
 abbrev Inv-loop : tie.InvT-loop
-Inv-loop marks total₀ i₀ total i = (length marks ≡ 256) × (total ≤ i) × (i ≤ 256) × (total + length (listFrom (λ a. eqb (getD marks a 0) 1) i (256 - i)) ≡ length (markedOf marks))
+Inv-loop marks total₀ i₀ total i =
+    (length marks ≡ 256) × (total ≤ i) × (i ≤ 256)
+    × (total + length (listFrom (λ a. eqb (getD marks a 0) 1) i (256 - i)) ≡ length (markedOf marks))
 
 abbrev μ-loop : tie.MeasureT-loop
 μ-loop marks total₀ i₀ total i = 256 - i
@@ -38,13 +40,22 @@ loop-again c =
     let m = c .before .before .before .before .args .marks .now in
     let t = c .before .before .loop-test .taken in
     let b = eqb (getD m (l .i) 0) 1 in
-    let e = c .one-more-if .ensures in
-    (i .0, omega (arith, i .1, e, flag-low b), omega (arith, t), omega (arith, i .3, e, count-more (λ (a : ℕ). eqb (getD m a 0) 1) {n = 256} {i = l .i} {b = b} t refl))
+    let e = c .one-more-if .ensures in (
+      i .0,
+      omega (arith, i .1, e, flag-low b),
+      omega (arith, t),
+      omega (arith, i .3, e, count-more (λ (a : ℕ). eqb (getD m a 0) 1) {n = 256} {i = l .i} {b = b} t refl),
+    )
 
 returns : tie.Need-returns Inv-loop μ-loop
 returns c =
     let l = c .before .loop in
-    omega (arith, l .inv .3, count-end (λ (a : ℕ). eqb (getD (c .before .before .args .marks .now) a 0) 1) {n = 256} {i = l .i} (c .loop-test .left))
+    omega (
+      arith,
+      l .inv .3,
+      count-end (λ (a : ℕ). eqb (getD (c .before .before .args .marks .now) a 0) 1) {n = 256}
+          {i = l .i} (c .loop-test .left),
+    )
 
 pub count-marks-spec : {M : Type 1} → statement M
 count-marks-spec =

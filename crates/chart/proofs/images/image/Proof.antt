@@ -12,7 +12,9 @@ use Rattle.chart.proofs.images.image.Statement.{statement}
 use Rattle.chart.proofs.images.image.Tie as tie
 
 abbrev Inv-loop : tie.InvT-loop
-Inv-loop body begins action targets₀ left₀ targets left = (checkOf body ≡ Stage.Passed) × Begins body begins × ((x : ℕ) → Has left x → Has left₀ x) × Members (ImageTo body left₀ left action) targets
+Inv-loop body begins action targets₀ left₀ targets left =
+    (checkOf body ≡ Stage.Passed) × Begins body begins × ((x : ℕ) → Has left x → Has left₀ x)
+    × Members (ImageTo body left₀ left action) targets
 
 abbrev μ-loop : tie.MeasureT-loop
 μ-loop body begins action targets₀ left₀ targets left = sizeOf left
@@ -30,22 +32,35 @@ lowest-requires : tie.Need-lowest-requires Inv-loop μ-loop
 lowest-requires c κs = search needs
 
 action-row-requires : tie.Need-action-row-requires Inv-loop μ-loop
-action-row-requires c κs = let i = c .before .before .before .loop .inv in (i .0, i .1, found (c .before .before .is-empty .ensures) (c .before .if1 .taken) (c .lowest .ensures) .below)
+action-row-requires c κs =
+    let i = c .before .before .before .loop .inv in
+    (i .0, i .1, found (c .before .before .is-empty .ensures) (c .before .if1 .taken) (c .lowest .ensures) .below)
 
 union-requires : tie.Need-union-requires Inv-loop μ-loop
 union-requires c κs = search needs
 
 without-requires : tie.Need-without-requires Inv-loop μ-loop
-without-requires c κs = found (c .before .before .before .before .is-empty .ensures) (c .before .before .before .if1 .taken) (c .before .before .lowest .ensures) .below
+without-requires c κs =
+    found (c .before .before .before .before .is-empty .ensures) (c .before .before .before .if1 .taken)
+    (c .before .before .lowest .ensures) .below
 
 loop-less : tie.Need-loop-less Inv-loop μ-loop
-loop-less c = visit-less (visited (c .before .before .before .before .before .before .loop .inv .2) (found (c .before .before .before .before .before .is-empty .ensures) (c .before .before .before .before .if1 .taken) (c .before .before .before .lowest .ensures)) (c .without .ensures))
+loop-less c =
+    visit-less (visited (c .before .before .before .before .before .before .loop .inv .2)
+    (found (c .before .before .before .before .before .is-empty .ensures)
+    (c .before .before .before .before .if1 .taken) (c .before .before .before .lowest .ensures)) (c .without .ensures))
 
 loop-again : tie.Need-loop-again Inv-loop μ-loop
 loop-again c =
     let i = c .before .before .before .before .before .before .loop .inv in
-    let T = visited (i .2) (found (c .before .before .before .before .before .is-empty .ensures) (c .before .before .before .before .if1 .taken) (c .before .before .before .lowest .ensures)) (c .without .ensures) in
-    (i .0, i .1, λ x h. i .2 x (T .rest x .0 h .0), image-more T (i .3) (c .before .before .action-row .ensures) (c .before .union .ensures))
+    let T = visited (i .2) (found (c .before .before .before .before .before .is-empty .ensures)
+    (c .before .before .before .before .if1 .taken) (c .before .before .before .lowest .ensures)) (c .without .ensures) in (
+      i .0,
+      i .1,
+      λ x h. i .2 x (T .rest x .0 h .0),
+      image-more T (i .3) (c .before .before .action-row .ensures)
+          (c .before .union .ensures),
+    )
 
 returns : tie.Need-returns Inv-loop μ-loop
 returns c = image-all (c .before .is-empty .ensures .0 (not-false _ (c .if1 .left))) (c .before .before .loop .inv .3)

@@ -14,7 +14,9 @@ use Rattle.chart.proofs.images.mark_row.Statement.{statement}
 use Rattle.chart.proofs.images.mark_row.Tie as tie
 
 abbrev Inv-loop : tie.InvT-loop
-Inv-loop body begins u marks₀ end i₀ marks i = WellFormed body × Begins body begins × (u < 128) × (length marks₀ ≡ 256) × (end ≤ countOf body) × (i₀ ≤ i) × (i ≤ end) × MarksMore (ActsBelow body u i) marks₀ marks
+Inv-loop body begins u marks₀ end i₀ marks i =
+    WellFormed body × Begins body begins × (u < 128) × (length marks₀ ≡ 256) × (end ≤ countOf body) × (i₀ ≤ i)
+    × (i ≤ end) × MarksMore (ActsBelow body u i) marks₀ marks
 
 abbrev μ-loop : tie.MeasureT-loop
 μ-loop body begins u marks₀ end i₀ marks i = end - i
@@ -36,8 +38,16 @@ element-copy-out-i c = search needs
 
 loop-holds : tie.Need-loop-holds Inv-loop μ-loop
 loop-holds c =
-    let p = c .before .before .before .pre in
-    (well-formed _ (p .0), p .1, p .2, p .3, begin-high (p .1) _ (p .2), le-refl _, begin-order (p .1) _ (p .2), marks-none (p .1 .split _ (omega (arith, p .2))))
+    let p = c .before .before .before .pre in (
+      well-formed _ (p .0),
+      p .1,
+      p .2,
+      p .3,
+      begin-high (p .1) _ (p .2),
+      le-refl _,
+      begin-order (p .1) _ (p .2),
+      marks-none (p .1 .split _ (omega (arith, p .2))),
+    )
 
 mul-byte : tie.Need-mul-byte Inv-loop μ-loop
 mul-byte c = search needs
@@ -66,8 +76,17 @@ loop-again c =
     let i = l .inv in
     let u = c .before .before .before .before .before .before .args .u in
     let t = c .before .loop-test .taken in
-    let leaves = at-mid (i .1 .split u (omega (arith, i .2))) (i .1 .split (u + 1) (omega (arith, i .2))) (l .i) (i .5) t in
-    (i .0, i .1, i .2, i .3, i .4, omega (arith, i .5), omega (arith, t), marks-more (i .3) (omega (arith, t, i .4)) leaves (c .byte .ensures .0) (c .byte .ensures .1) (i .7))
+    let leaves = at-mid (i .1 .split u (omega (arith, i .2))) (i .1 .split (u + 1) (omega (arith, i .2))) (l .i) (i .5) t in (
+      i .0,
+      i .1,
+      i .2,
+      i .3,
+      i .4,
+      omega (arith, i .5),
+      omega (arith, t),
+      marks-more (i .3)
+          (omega (arith, t, i .4)) leaves (c .byte .ensures .0) (c .byte .ensures .1) (i .7),
+    )
 
 returns : tie.Need-returns Inv-loop μ-loop
 returns c = let i = c .before .loop .inv in marks-all (i .1 .split _ (omega (arith, i .2))) (c .loop-test .left) (i .7)

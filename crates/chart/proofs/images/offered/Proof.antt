@@ -13,7 +13,8 @@ use Rattle.chart.proofs.images.offered.Statement.{statement}
 use Rattle.chart.proofs.images.offered.Tie as tie
 
 abbrev Inv-loop : tie.InvT-loop
-Inv-loop body begins marks₀ left₀ marks left = (checkOf body ≡ Stage.Passed) × Begins body begins × ((x : ℕ) → Has left x → Has left₀ x) × Marks (OffersTo body left₀ left) marks
+Inv-loop body begins marks₀ left₀ marks left =
+    (checkOf body ≡ Stage.Passed) × Begins body begins × ((x : ℕ) → Has left x → Has left₀ x) × Marks (OffersTo body left₀ left) marks
 
 abbrev μ-loop : tie.MeasureT-loop
 μ-loop body begins marks₀ left₀ marks left = sizeOf left
@@ -28,18 +29,31 @@ lowest-requires : tie.Need-lowest-requires Inv-loop μ-loop
 lowest-requires c κs = search needs
 
 mark-row-requires : tie.Need-mark-row-requires Inv-loop μ-loop
-mark-row-requires c κs = let i = c .before .before .before .before .loop .inv in (i .0, i .1, found (c .before .before .before .is-empty .ensures) (c .before .before .if1 .taken) (c .before .lowest .ensures) .below, i .3 .long)
+mark-row-requires c κs =
+    let i = c .before .before .before .before .loop .inv in (
+      i .0,
+      i .1,
+      found (c .before .before .before .is-empty .ensures) (c .before .before .if1 .taken)
+          (c .before .lowest .ensures) .below,
+      i .3 .long,
+    )
 
 without-requires : tie.Need-without-requires Inv-loop μ-loop
-without-requires c κs = found (c .before .before .before .before .is-empty .ensures) (c .before .before .before .if1 .taken) (c .before .before .lowest .ensures) .below
+without-requires c κs =
+    found (c .before .before .before .before .is-empty .ensures) (c .before .before .before .if1 .taken)
+    (c .before .before .lowest .ensures) .below
 
 loop-less : tie.Need-loop-less Inv-loop μ-loop
-loop-less c = visit-less (visited (c .before .before .before .before .before .before .loop .inv .2) (found (c .before .before .before .before .before .is-empty .ensures) (c .before .before .before .before .if1 .taken) (c .before .before .before .lowest .ensures)) (c .without .ensures))
+loop-less c =
+    visit-less (visited (c .before .before .before .before .before .before .loop .inv .2)
+    (found (c .before .before .before .before .before .is-empty .ensures)
+    (c .before .before .before .before .if1 .taken) (c .before .before .before .lowest .ensures)) (c .without .ensures))
 
 loop-again : tie.Need-loop-again Inv-loop μ-loop
 loop-again c =
     let i = c .before .before .before .before .before .before .loop .inv in
-    let T = visited (i .2) (found (c .before .before .before .before .before .is-empty .ensures) (c .before .before .before .before .if1 .taken) (c .before .before .before .lowest .ensures)) (c .without .ensures) in
+    let T = visited (i .2) (found (c .before .before .before .before .before .is-empty .ensures)
+    (c .before .before .before .before .if1 .taken) (c .before .before .before .lowest .ensures)) (c .without .ensures) in
     (i .0, i .1, λ x h. i .2 x (T .rest x .0 h .0), offers-more T (i .3) (c .before .mark-row .ensures))
 
 returns : tie.Need-returns Inv-loop μ-loop

@@ -35,7 +35,9 @@ add-byte-3 : tie.Need-add-byte-3 Inv-loop μ-loop
 add-byte-3 c = let i = c .before .loop .inv in omega (arith, i .3, i .2 .to)
 
 byte-requires : tie.Need-byte-requires Inv-loop μ-loop
-byte-requires c κs = let i = c .before .loop .inv in omega (arith, c .loop-test .taken, i .1 .within, well-formed _ (i .1 .passed) .header .whole)
+byte-requires c κs =
+    let i = c .before .loop .inv in
+    omega (arith, c .loop-test .taken, i .1 .within, well-formed _ (i .1 .passed) .header .whole)
 
 returns : tie.Need-returns Inv-loop μ-loop
 returns c = c .before .before .before .loop .inv .2
@@ -48,8 +50,13 @@ loop-less c = omega (arith, c .before .before .loop-test .taken)
 
 loop-again : tie.Need-loop-again Inv-loop μ-loop
 loop-again c =
-    let i = c .before .before .before .loop .inv in
-    (i .0, i .1, lower-more (i .0) (i .1) (i .2) (c .before .before .loop-test .taken) (c .before .byte .ensures .0) (omega (arith, c .if1 .left)), i .3)
+    let i = c .before .before .before .loop .inv in (
+      i .0,
+      i .1,
+      lower-more (i .0) (i .1) (i .2) (c .before .before .loop-test .taken) (c .before .byte .ensures .0)
+          (omega (arith, c .if1 .left)),
+      i .3,
+    )
 
 returns-2 : tie.Need-returns-2 Inv-loop μ-loop
 returns-2 c = c .before .loop .inv .2

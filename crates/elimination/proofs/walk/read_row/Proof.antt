@@ -16,7 +16,9 @@ put-row-requires : tie.Need-put-row-requires
 put-row-requires c κs = search needs
 
 returns-2 : tie.Need-returns-2
-returns-2 c = let p = c .before .before .before .before .before .before .before .pre in rw (c .put-row .ensures) (row-put (p .4) (p .3) (c .before .kept-row .ensures))
+returns-2 c =
+    let p = c .before .before .before .before .before .before .before .pre in
+    rw (c .put-row .ensures) (row-put (p .4) (p .3) (c .before .kept-row .ensures))
 
 pub read-row-spec : {M : Type 1} → statement M
 read-row-spec =
