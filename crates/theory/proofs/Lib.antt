@@ -32,3 +32,5 @@ pub mod Followers
 pub mod Events
 pub mod Runs
 pub mod FollowerCases
+pub mod Ways
+pub mod WayTests

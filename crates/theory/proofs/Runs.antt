@@ -61,7 +61,7 @@ pick← a (m ∷ ms) y h = go (eqb a (m .0)) refl (pick← a ms y) (List·Memᴰ
     go false e i (inr j) = i j
 
 -- what some entry of a list has
-flat→ : {A B : Type 0} (f : A → List B) (xs : List A) (m : B)
+pub flat→ : {A B : Type 0} (f : A → List B) (xs : List A) (m : B)
     → List·Memᴰ m (flatMap f xs) → (x : A) × List·Memᴰ x xs × List·Memᴰ m (f x)
 unfolding flatMap
 flat→ f [] m h = absurd (List·Memᴰ·not-nil h)
@@ -70,7 +70,7 @@ flat→ f (x ∷ xs) m h =
     (λ i. let (y, g, j) = flat→ f xs m i in (y, List·Memᴰ·tail g, j))
     (List·Memᴰ·append-cases (f x) h)
 
-flat← : {A B : Type 0} (f : A → List B) (xs : List A) (m : B) (x : A)
+pub flat← : {A B : Type 0} (f : A → List B) (xs : List A) (m : B) (x : A)
     → List·Memᴰ x xs → List·Memᴰ m (f x) → List·Memᴰ m (flatMap f xs)
 unfolding flatMap
 flat← f [] m x h i = absurd (List·Memᴰ·not-nil h)

@@ -22,6 +22,7 @@ pub mod ExpressionCharts
 pub mod Relations
 pub mod Followers
 pub mod Events
+pub mod Ways
 -- THE TESTS, which run: each decides or lists what one of the above means, by a law
 pub mod Tests
 pub mod Reachability
@@ -30,5 +31,6 @@ pub mod RelationTests
 pub mod RemovalTests
 pub mod Derivatives
 pub mod Runs
+pub mod WayTests
 -- WHAT ONLY SERVES PROOFS
 pub mod Recursions

@@ -19,6 +19,9 @@ unfoldable pub precedes : Transition → Transition → Bool
 precedes x y =
     ltb (x .0) (y .0) || (eqb (x .0) (y .0) && (ltb (x .1) (y .1) || (eqb (x .1) (y .1) && ltb (x .2) (y .2))))
 
--- the chart with this start; vertex 0 is the end
+-- the chart with this start and these steps; vertex 0 is the end
+abbrev pub chartBy : ℕ → (ℕ → ℕ → ℕ → Type 0) → System
+chartBy start S = record { State = ℕ; start = start; End = λ v. v ≡ 0; Step = S }
+
 abbrev pub chart : ℕ → List Transition → System
-chart start ts = record { State = ℕ; start = start; End = λ v. v ≡ 0; Step = λ u a w. List·Memᴰ (u, a, w) ts }
+chart start ts = chartBy start (λ u a w. List·Memᴰ (u, a, w) ts)
