@@ -3,11 +3,11 @@
 use mathlib.Core.Path.{_≡_, refl, sym, _∙_, ap}
 use mathlib.Core.Logic.{_≢_, _⊎_, inl, inr, ⊎-elim}
 use mathlib.Core.Bool.{Bool, true, false, cond}
-use Prim.Native.Nat.{ℕ, _+_, _<_}
+use Prim.Native.Nat.{ℕ, _<_, _≤_}
 use native.Mathlib.Omega.{arith}
 use lib.Dec.{eqb}
 use borrow.Author.Tests.{ne-eqb}
-use Rattle.report.specs.Numbers.{placeNumbers, verdictNumbers, writtenNumbers, removedNumbers, flag, followedNumbers}
+use Rattle.report.specs.Numbers.{placeNumbers, verdictNumbers, writtenNumbers, removedNumbers, flag, followedNumbers, wayNumbers}
 use Rattle.report.specs.declared.Numbers.{Numbers}
 use Rattle.report.specs.declared.Place.{Place}
 use Rattle.report.specs.declared.Place.the-variants.{File, Record, RecordKind, FileOffset, NodesLength, Node, NodeUses, ChartHeader, Transition, LabelsLength, Unreached, BranchCycle, LoopNoReturn, LoopEndInside, LoopNotLower, RelationLength, PairNoVertex, PairStarts, PairEnds, PairExpressionStep, PairChartStep, OutputLength}
@@ -19,6 +19,8 @@ use Rattle.report.specs.declared.Removed.{Removed}
 use Rattle.report.specs.declared.Removed.the-variants as removed
 use Rattle.report.specs.declared.Followed.{Followed}
 use Rattle.report.specs.declared.Followed.the-variants as followed
+use Rattle.report.specs.declared.Way.{Way}
+use Rattle.report.specs.declared.Way.the-variants as way
 
 -- the refusal that has these numbers
 placeAt : Numbers → Place
@@ -99,9 +101,9 @@ range (OutputLength p) = (omega arith, inr refl)
 numbered : (x : Place) → 0 < placeNumbers x .n
 numbered x = range x .0
 
--- a number from 50 to 53 is another's
-not-fifty : (x : Place) (k : ℕ) → k < 4 → placeNumbers x .n ≢ 50 + k
-not-fifty x k h e = ⊎-elim (λ l. omega (arith, l, e)) (λ l. omega (arith, l, e, h)) (range x .1)
+-- a number of 50 or above is another's, but for 54
+not-place : (x : Place) (n : ℕ) → 50 ≤ n → n ≢ 54 → placeNumbers x .n ≢ n
+not-place x n h other e = ⊎-elim (λ l. omega (arith, l, e, h)) (λ l. other (sym e ∙ l)) (range x .1)
 
 -- NO TWO REFUSALS HAVE THE SAME FOUR NUMBERS
 pub one-refusal : (x y : Place) → placeNumbers x ≡ placeNumbers y → x ≡ y
@@ -140,9 +142,9 @@ removed-at removed.Done = refl
 removed-at (removed.Refused place) =
     rw (
       ne-eqb (placeNumbers place .n) 0 (λ e. omega (arith, e, numbered place)),
-      ne-eqb (placeNumbers place .n) 50 (not-fifty place 0 (omega arith)),
-      ne-eqb (placeNumbers place .n) 51 (not-fifty place 1 (omega arith)),
-      ne-eqb (placeNumbers place .n) 52 (not-fifty place 2 (omega arith)),
+      ne-eqb (placeNumbers place .n) 50 (not-place place 50 (omega arith) (omega arith)),
+      ne-eqb (placeNumbers place .n) 51 (not-place place 51 (omega arith) (omega arith)),
+      ne-eqb (placeNumbers place .n) 52 (not-place place 52 (omega arith) (omega arith)),
     ) (ap removed.Refused (place-at place))
 removed-at removed.StandingBytes = refl
 removed-at (removed.NoEntry v l) = refl
@@ -168,9 +170,32 @@ followed-at (followed.NotPossible end offered) = ap (λ b. followed.NotPossible 
 followed-at (followed.Refused place) =
     rw (
       ne-eqb (placeNumbers place .n) 0 (λ e. omega (arith, e, numbered place)),
-      ne-eqb (placeNumbers place .n) 53 (not-fifty place 3 (omega arith)),
+      ne-eqb (placeNumbers place .n) 53 (not-place place 53 (omega arith) (omega arith)),
     ) (ap followed.Refused (place-at place))
 followed-at followed.FollowerSet = refl
 
 pub one-followed : (x y : Followed) → followedNumbers x ≡ followedNumbers y → x ≡ y
 one-followed x y e = sym (followed-at x) ∙ ap followedAt e ∙ followed-at y
+
+-- and no two answers of the shortest way
+wayAt : Numbers → Way
+wayAt k =
+    cond (eqb (k .n) 0) (way.Length (k .p))
+    (cond (eqb (k .n) 53) way.FollowerSet
+    (cond (eqb (k .n) 55) way.NoWay
+    (way.Refused (placeAt k))))
+
+way-at : (x : Way) → wayAt (wayNumbers x) ≡ x
+unfolding wayAt
+way-at (way.Length length) = refl
+way-at (way.Refused place) =
+    rw (
+      ne-eqb (placeNumbers place .n) 0 (λ e. omega (arith, e, numbered place)),
+      ne-eqb (placeNumbers place .n) 53 (not-place place 53 (omega arith) (omega arith)),
+      ne-eqb (placeNumbers place .n) 55 (not-place place 55 (omega arith) (omega arith)),
+    ) (ap way.Refused (place-at place))
+way-at way.FollowerSet = refl
+way-at way.NoWay = refl
+
+pub one-way : (x y : Way) → wayNumbers x ≡ wayNumbers y → x ≡ y
+one-way x y e = sym (way-at x) ∙ ap wayAt e ∙ way-at y

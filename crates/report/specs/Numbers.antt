@@ -12,6 +12,8 @@ use Rattle.report.specs.declared.Removed.{Removed}
 use Rattle.report.specs.declared.Removed.the-variants as removed
 use Rattle.report.specs.declared.Followed.{Followed}
 use Rattle.report.specs.declared.Followed.the-variants as followed
+use Rattle.report.specs.declared.Way.{Way}
+use Rattle.report.specs.declared.Way.the-variants as way
 
 abbrev pub four : ℕ → ℕ → ℕ → ℕ → Numbers
 four n p q r = record { n = n; p = p; q = q; r = r }
@@ -69,3 +71,10 @@ followedNumbers (followed.Taken end offered) = four 0 1 (flag end) offered
 followedNumbers (followed.NotPossible end offered) = four 0 0 (flag end) offered
 followedNumbers (followed.Refused place) = placeNumbers place
 followedNumbers followed.FollowerSet = four 53 0 0 0
+
+-- nothing refused: 0, and the length
+abbrev pub wayNumbers : Way → Numbers
+wayNumbers (way.Length length) = four 0 length 0 0
+wayNumbers (way.Refused place) = placeNumbers place
+wayNumbers way.FollowerSet = four 53 0 0 0
+wayNumbers way.NoWay = four 55 0 0 0

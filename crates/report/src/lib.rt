@@ -1,7 +1,7 @@
 // The answers, and document 01's number and values (n, p, q, r) for each of their cases.
 ghost use mathlib.Core.Path.{_≡_};
 ghost use Rattle.report.specs.Numbers.{four, placeNumbers, verdictNumbers, writtenNumbers, removedNumbers};
-ghost use Rattle.report.specs.Numbers.{flag, followedNumbers};
+ghost use Rattle.report.specs.Numbers.{flag, followedNumbers, wayNumbers};
 
 // A refusal, which holds its place: one case for each number of document 01.
 pub enum Place {
@@ -97,6 +97,17 @@ pub enum Followed {
     Refused(Place),
     // 53: the follower's set is empty, has a vertex of V or above, or has not 16 bytes
     FollowerSet,
+}
+
+// What the shortest way answers: the length of the list, or a refusal.
+pub enum Way {
+    Length(usize),
+    // 20, 21: of the chart; 54: lent output too short
+    Refused(Place),
+    // 53: the follower's set, as above
+    FollowerSet,
+    // 55: no list of events reaches the end
+    NoWay,
 }
 
 // The refusal's number, or 0 where nothing is refused, and three values.
@@ -199,5 +210,16 @@ pub fn followed_numbers(followed: Followed) -> Numbers
         Followed::NotPossible(end, offered) => four_numbers(0, 0, flag_number(end), offered),
         Followed::Refused(place) => place_numbers(place),
         Followed::FollowerSet => four_numbers(53, 0, 0, 0),
+    }
+}
+
+pub fn way_numbers(way: Way) -> Numbers
+    ensures { λ r. ⌜ r ≡ wayNumbers way ⌝ }
+{
+    match way {
+        Way::Length(length) => four_numbers(0, length, 0, 0),
+        Way::Refused(place) => place_numbers(place),
+        Way::FollowerSet => four_numbers(53, 0, 0, 0),
+        Way::NoWay => four_numbers(55, 0, 0, 0),
     }
 }

@@ -1,0 +1,58 @@
+use mathlib.Core.Path.{sym, ap, _∙_}
+use Rattle.report.specs.Numbers.{wayNumbers}
+use borrow.Author.Needs.{needs}
+use Rattle.report.proofs.way_numbers.Statement.{statement}
+use Rattle.report.proofs.way_numbers.Tie as tie
+
+enum-known-way : tie.Need-enum-known-way
+enum-known-way c = search needs
+
+four-numbers-requires : tie.Need-four-numbers-requires
+four-numbers-requires c κs = search needs
+
+enum-known-way-2 : tie.Need-enum-known-way-2
+enum-known-way-2 c = search needs
+
+place-numbers-requires : tie.Need-place-numbers-requires
+place-numbers-requires c κs = search needs
+
+enum-told : tie.Need-enum-told
+enum-told c = search needs
+
+four-numbers-requires-2 : tie.Need-four-numbers-requires-2
+four-numbers-requires-2 c κs = search needs
+
+enum-told-2 : tie.Need-enum-told-2
+enum-told-2 c = search needs
+
+four-numbers-requires-3 : tie.Need-four-numbers-requires-3
+four-numbers-requires-3 c κs = search needs
+
+returns : tie.Need-returns
+returns c = c .four-numbers .ensures ∙ sym (ap wayNumbers (c .before .before .way .given .1))
+
+returns-2 : tie.Need-returns-2
+returns-2 c = c .place-numbers .ensures ∙ sym (ap wayNumbers (c .before .before .way2 .given .1))
+
+returns-3 : tie.Need-returns-3
+returns-3 c = c .four-numbers2 .ensures ∙ sym (ap wayNumbers (c .before .enum-told .given .1))
+
+returns-4 : tie.Need-returns-4
+returns-4 c = c .four-numbers3 .ensures ∙ sym (ap wayNumbers (c .before .enum-told2 .given .1))
+
+pub way-numbers-spec : {M : Type 1} → statement M
+way-numbers-spec =
+    tie.close
+    (tie.spec
+    enum-known-way
+    four-numbers-requires
+    enum-known-way-2
+    place-numbers-requires
+    enum-told
+    four-numbers-requires-2
+    enum-told-2
+    four-numbers-requires-3
+    returns
+    returns-2
+    returns-3
+    returns-4)
