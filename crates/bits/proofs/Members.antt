@@ -1,6 +1,6 @@
 -- Sets of the numbers below 128, by the bits of their two words.
 use mathlib.Core.Path.{_≡_, refl, sym, _∙_, ap, subst}
-use mathlib.Core.Logic.{_⊎_, inl, inr, ⊎-elim, _↔_}
+use mathlib.Core.Logic.{_≢_, _⊎_, inl, inr, ⊎-elim, _↔_}
 use mathlib.Core.Bool.{Bool, true, false, cond, _&&_, true≢false, false≢true}
 use Prim.Native.Nat.{ℕ, _+_, _-_, _/_, _%_, _^_, _≤_, _<_}
 use native.Mathlib.Nat.{zero-div}
@@ -11,7 +11,7 @@ use mathlib.Core.List.{List}
 use lib.Dec.{ltb, eqb}
 use lib.ListN.{getD}
 use Rattle.bits.specs.declared.sets.Set.{Set}
-use Rattle.bits.specs.Words.{On, LowestOn, HighestOn, With}
+use Rattle.bits.specs.Words.{On, LowestOn, HighestOn, With, Without}
 use Rattle.bits.specs.First.{First}
 use Rattle.bits.specs.Packed.{Packed}
 use Rattle.bits.specs.Sets.{halfOf, Has, emptySet, Empty, Members, Union, Intersection, Difference, Last, SetFits, sizeOf}
@@ -147,6 +147,77 @@ lowest-high s r e L = record {
 
 pub lowest-none : (s : Set) → s .lo ≡ 0 → s .hi ≡ 0 → First (Has s) 0 128 128
 lowest-none s e f = record { from = omega arith; within = omega arith; holds = λ h. absurd (omega (arith, h)); before = λ k a l h. words-zero s e f k h }
+
+-- one number less, in the word of the two that has its bit
+less-law : (s : Set) (u : ℕ) (t : Set) → ((j : ℕ) → j < 64 → On (t .lo) j ↔ (On (s .lo) j × (j ≢ u)))
+    → ((j : ℕ) → j < 64 → On (t .hi) j ↔ (On (s .hi) j × (64 + j ≢ u)))
+    → (y : ℕ) → Has t y ↔ (Has s y × (y ≢ u))
+less-law s u t f g y = (
+  (λ h. let (o, n) = pick (ltb y 64) refl (h .below) .0 (h .on) in (record { below = h .below; on = o }, n)),
+  (λ (h, n). record { below = h .below; on = pick (ltb y 64) refl (h .below) .1 (h .on, n) }),
+)
+  where
+    pick : (b : Bool) → ltb y 64 ≡ b → y < 128
+        → On (cond b (t .lo) (t .hi)) (y % 64) ↔ (On (cond b (s .lo) (s .hi)) (y % 64) × (y ≢ u))
+    pick true e l = let h = ltb-true y 64 e in let w = f (y % 64) (omega arith) in (
+      (λ on. let (o, n) = w .0 on in (o, λ z. n (omega (arith, h, z)))),
+      (λ (o, n). w .1 (o, λ z. n (omega (arith, h, z)))),
+    )
+    pick false e l = let h = ltb-false y 64 e in let w = g (y % 64) (omega arith) in (
+      (λ on. let (o, n) = w .0 on in (o, λ z. n (omega (arith, h, l, z)))),
+      (λ (o, n). w .1 (o, λ z. n (omega (arith, h, l, z)))),
+    )
+
+-- without the lowest number: in the first word, or in the second where there is none in the first
+pub rest-low : (s : Set) {r : ℕ} → s .lo ≢ 0 → s .lo < 2 ^ 64 → ((k : ℕ) → LowestOn (s .lo) k → Without (s .lo) k r)
+    → (u : ℕ) → First (Has s) 0 128 u → (y : ℕ) → Has (record { lo = r; hi = s .hi }) y ↔ (Has s y × (y ≢ u))
+rest-low s {r} n f W u F =
+    less-law s u (record { lo = r; hi = s .hi }) (λ j l. L .exactly j) (λ j l. ((λ on. (on, λ z. omega (arith, z, low))), (λ (on, q). on)))
+  where
+    low : u < 64
+    low = elim (decLt u 64) [
+      | yes h ↦ h
+      | no h ↦ absurd (n (no-bit 64 (s .lo) f (λ k l on. F .before k (omega arith) (omega (arith, l, h)) (low-has s k l on))))
+    ]
+
+    L : Without (s .lo) u r
+    L = W u (record {
+      within = low;
+      on = has-low s u low (F .holds (omega (arith, low)));
+      below = λ k l on. F .before k (omega arith) l (low-has s k (omega (arith, l, low)) on);
+    })
+
+pub rest-high : (s : Set) {r : ℕ} → s .lo ≡ 0 → (¬ Empty s) → ((k : ℕ) → LowestOn (s .hi) k → Without (s .hi) k r)
+    → (u : ℕ) → First (Has s) 0 128 u → (y : ℕ) → Has (record { lo = s .lo; hi = r }) y ↔ (Has s y × (y ≢ u))
+rest-high s {r} e some W u F =
+    less-law s u (record { lo = s .lo; hi = r })
+    (λ j l. ((λ on. absurd (off j on)), (λ (on, q). on)))
+    (λ j l. (
+      (λ on. let (p, q) = L .exactly j .0 on in (p, λ z. q (omega (arith, z)))),
+      (λ (on, q). L .exactly j .1 (on, λ z. q (omega (arith, z, high)))),
+    ))
+  where
+    off : (j : ℕ) → ¬ On (s .lo) j
+    off j on = zero-off j (subst (λ (x : ℕ). On x j) e on)
+
+    within : u < 128
+    within = elim (decLt u 128) [
+      | yes h ↦ h
+      | no h ↦ absurd (some (λ w g. F .before w (omega arith) (omega (arith, h, g .below)) g))
+    ]
+
+    high : 64 ≤ u
+    high = elim (decLt u 64) [ yes h ↦ absurd (off u (has-low s u h (F .holds within))) | no h ↦ omega (arith, h) ]
+
+    at : 64 + (u - 64) ≡ u
+    at = omega (arith, high)
+
+    L : Without (s .hi) (u - 64) r
+    L = W (u - 64) (record {
+      within = omega (arith, within, high);
+      on = has-high s (u - 64) (omega (arith, within, high)) (rw at (F .holds within));
+      below = λ k l on. F .before (64 + k) (omega arith) (omega (arith, l, high)) (high-has s k (omega (arith, l, within, high)) on);
+    })
 
 -- the highest number
 pub highest-high : (s : Set) (r : ℕ) → HighestOn (s .hi) r → Last s (64 + r)

@@ -1,7 +1,7 @@
--- Going over the members of a set, the lowest first; and the set written as bytes by it.
+-- Going over the members of a set, the lowest first: what they are related to, and the set written as bytes by it.
 use Prim.Native.Nat.{ℕ, _+_, _*_, _/_, _%_, _<_}
-use mathlib.Core.Path.{_≡_, refl, sym, _∙_}
-use mathlib.Core.Logic.{_≢_, inl, inr, ⊎-elim, _↔_, by-cases}
+use mathlib.Core.Path.{_≡_, refl, sym, _∙_, subst}
+use mathlib.Core.Logic.{_≢_, _⊎_, inl, inr, ⊎-elim, _↔_, by-cases}
 use mathlib.Core.Bool.{Bool, true, not, true≢false}
 use mathlib.Core.List.{List}
 use native.Mathlib.Decide.{ℕ-discrete, decLt}
@@ -12,9 +12,9 @@ use borrow.Author.Tests.{not-true}
 use Rattle.bits.specs.declared.sets.Set.{Set}
 use Rattle.bits.specs.First.{First}
 use Rattle.bits.specs.Words.{On, With}
-use Rattle.bits.specs.Sets.{Has, Empty, sizeOf, BytesOf}
+use Rattle.bits.specs.Sets.{Has, emptySet, Empty, Members, Union, sizeOf, BytesOf}
 use Rattle.bits.proofs.Gains.{blank}
-use Rattle.bits.proofs.Members.{size-lt, zero-off, same-word}
+use Rattle.bits.proofs.Members.{⊎-map, none, size-lt, zero-off, same-word}
 use Rattle.bits.proofs.Words.{bit-below}
 
 -- u is left of the set s, and then `fewer` is left
@@ -26,16 +26,73 @@ pub record Visit (s left : Set) (u : ℕ) (fewer : Set) : Type 0 where
 pub visit-less : {s left fewer : Set} {u : ℕ} → Visit s left u fewer → sizeOf fewer < sizeOf left
 visit-less {left = left} {fewer} {u} T = size-lt fewer left u (λ y h. T .rest y .0 h .0) (T .has) (λ h. T .rest u .0 h .1 refl)
 
+-- what is left after it is of the set too
+pub visit-within : {s left fewer : Set} {u : ℕ} → Visit s left u fewer → (x : ℕ) → Has fewer x → Has s x
+visit-within T x h = T .within x (T .rest x .0 h .0)
+
+-- where the test for nothing fails, something is there
+pub not-empty : {s : Set} {b : Bool} → (b ≡ true) ↔ Empty s → not b ≡ true → ¬ Empty s
+not-empty E n e = true≢false (sym (E .1 e) ∙ not-true _ n)
+
 -- where something is left, the lowest is
 pub found : {left : Set} {u : ℕ} {b : Bool} → (b ≡ true) ↔ Empty left → not b ≡ true → First (Has left) 0 128 u → Has left u
 found {left} {u} E n F = by-cases (decLt u 128)
     (λ h. F .holds h)
-    (λ h. absurd (true≢false (sym (E .1 (λ w g. F .before w (omega arith) (omega (arith, h, g .below)) g)) ∙ not-true _ n)))
+    (λ h. absurd (not-empty E n (λ w g. F .before w (omega arith) (omega (arith, h, g .below)) g)))
 
-pub visited : {s left fewer : Set} {u : ℕ} → ((x : ℕ) → Has left x → Has s x) → Has left u
-    → ((y : ℕ) → Has fewer y ↔ (Has left y × (y ≢ u)))
+-- and has its turn
+pub visit-next : {s left fewer : Set} {u : ℕ} {b : Bool} → ((x : ℕ) → Has left x → Has s x) → (b ≡ true) ↔ Empty left
+    → not b ≡ true → First (Has left) 0 128 u
+    → ((v : ℕ) → First (Has left) 0 128 v → (y : ℕ) → Has fewer y ↔ (Has left y × (y ≢ v)))
     → Visit s left u fewer
-visited w h W = record { within = w; has = h; rest = W }
+visit-next w E n F W = record { within = w; has = found E n F; rest = W _ F }
+
+-- w is related to a member of the set that is left no longer
+pub record FromPast (R : ℕ → ℕ → Type 0) (s left : Set) (w : ℕ) : Type 0 where
+  pub from : ℕ
+  pub member : Has s from
+  pub past : ¬ Has left from
+  pub related : R from w
+
+module _ {R : ℕ → ℕ → Type 0} {s : Set} where
+  -- WHAT COMES from the members past: at first nothing
+  pub past-none : {w : ℕ} → ¬ FromPast R s s w
+  past-none g = g .past (g .member)
+
+  -- after u, what was before, and what u is related to
+  module _ {left fewer : Set} {u : ℕ} (T : Visit s left u fewer) where
+    pub past-still : {w : ℕ} → FromPast R s left w → FromPast R s fewer w
+    past-still g = record { from = g .from; member = g .member; past = λ z. g .past (T .rest _ .0 z .0); related = g .related }
+
+    pub past-new : {w : ℕ} → R u w → FromPast R s fewer w
+    past-new r = record { from = u; member = T .within u (T .has); past = λ z. T .rest u .0 z .1 refl; related = r }
+
+    pub past-or : {w : ℕ} → FromPast R s fewer w → FromPast R s left w ⊎ R u w
+    past-or {w} g = by-cases (ℕ-discrete (g .from) u)
+        (λ e. inr (subst (λ (x : ℕ). R x w) e (g .related)))
+        (λ n. inl (record { from = g .from; member = g .member; past = λ z. g .past (T .rest _ .1 (z, n)); related = g .related }))
+
+  -- in the end, all that a member is related to
+  pub past-all : {left : Set} {w : ℕ} → Empty left → FromPast R s left w ↔ ((u : ℕ) × Has s u × R u w)
+  past-all E = (λ g. (g .from, g .member, g .related), λ (u, m, r). record { from = u; member = m; past = E u; related = r })
+
+  -- A SET of what comes from them
+  pub visits-none : {r : Set} → r ≡ emptySet → Members (FromPast R s s) r
+  visits-none e = record { exactly = λ w h. ((λ p. absurd (none w (rw e at p))), (λ g. absurd (past-none g))) }
+
+  pub visits-more : {left fewer t q r : Set} {u : ℕ} → Visit s left u fewer → Members (FromPast R s left) t → Members (R u) q → Union t q r
+      → Members (FromPast R s fewer) r
+  visits-more T M Q U = record {
+    exactly = λ w h. (
+      (λ p. ⊎-elim (λ g. past-still T (M .exactly w h .0 g)) (λ g. past-new T (Q .exactly w h .0 g)) (U w .0 p)),
+      (λ g. U w .1 (⊎-map (M .exactly w h .1) (Q .exactly w h .1) (past-or T g))),
+    );
+  }
+
+  pub visits-all : {left r : Set} → Empty left → Members (FromPast R s left) r → Members (λ (w : ℕ). (u : ℕ) × Has s u × R u w) r
+  visits-all E M = record {
+    exactly = λ w h. ((λ p. past-all E .0 (M .exactly w h .0 p)), (λ g. M .exactly w h .1 (past-all E .1 g)));
+  }
 
 -- THE BYTES have the bits of those that are left no longer
 pub record Writing (s left : Set) (bytes : List ℕ) : Type 0 where

@@ -9,6 +9,7 @@ use super::lowest_bit;
 use super::read_u64;
 use super::with_bit;
 use super::with_value;
+use super::without_lowest;
 ghost use mathlib.Core.Path.{_≡_};
 ghost use mathlib.Core.Bool.{true};
 ghost use mathlib.Core.Logic.{_≢_, _⊎_, _↔_};
@@ -92,6 +93,23 @@ impl Set {
         ensures { λ r. ⌜ ((y : ℕ) → Has r y ↔ (Has self y × (y ≢ w))) ⌝ }
     {
         self.difference(Set::empty().with(w))
+    }
+
+    // The set without its lowest number.
+    pub fn without_lowest(self) -> Set
+        requires { ⌜ ¬ Empty self ⌝ }
+        ensures { λ r. ⌜ ((u : ℕ) → First (Has self) 0 128 u → (y : ℕ) → Has r y ↔ (Has self y × (y ≢ u))) ⌝ }
+    {
+        if self.lo != 0 {
+            return Set {
+                lo: without_lowest(self.lo),
+                hi: self.hi,
+            };
+        }
+        Set {
+            lo: self.lo,
+            hi: without_lowest(self.hi),
+        }
     }
 
     pub fn is_empty(self) -> bool
@@ -190,7 +208,7 @@ pub fn set_bytes(set: Set) -> [u8; 16]
         let v = left.lowest();
         let at = v / 8;
         bytes[at] = with_value(bytes[at], v % 8);
-        left = left.without(v);
+        left = left.without_lowest();
     }
     bytes
 }

@@ -3,7 +3,7 @@ use Prim.Native.Nat.{ℕ}
 use native.Mathlib.Omega.{arith}
 use borrow.Author.Tests.{not-false}
 use Rattle.bits.specs.Sets.{Has, sizeOf}
-use Rattle.bits.proofs.Visits.{visit-less, found, visited, Writing, writing-none, writing-more, writing-all}
+use Rattle.bits.proofs.Visits.{not-empty, found, visit-next, visit-less, visit-within, Writing, writing-none, writing-more, writing-all}
 use Rattle.bits.proofs.sets.set_bytes.Statement.{statement}
 use Rattle.bits.proofs.sets.set_bytes.Tie as tie
 
@@ -35,22 +35,20 @@ array-write-bytes c =
     let l = found (c .before .before .before .is-empty .ensures) (c .before .before .if1 .taken) (c .before .lowest .ensures) .below in
     omega (arith, l)
 
-without-requires : tie.Need-without-requires Inv-loop μ-loop
-without-requires c κs =
-    found (c .before .before .before .is-empty .ensures) (c .before .before .if1 .taken) (c .before .lowest .ensures) .below
+without-lowest-requires : tie.Need-without-lowest-requires Inv-loop μ-loop
+without-lowest-requires c κs = not-empty (c .before .before .before .is-empty .ensures) (c .before .before .if1 .taken)
 
 loop-less : tie.Need-loop-less Inv-loop μ-loop
 loop-less c =
-    visit-less (visited (c .before .before .before .before .before .loop .inv .0)
-    (found (c .before .before .before .before .is-empty .ensures) (c .before .before .before .if1 .taken)
-    (c .before .before .lowest .ensures)) (c .without .ensures))
+    visit-less (visit-next (c .before .before .before .before .before .loop .inv .0) (c .before .before .before .before .is-empty .ensures)
+    (c .before .before .before .if1 .taken) (c .before .before .lowest .ensures) (c .without-lowest .ensures))
 
 loop-again : tie.Need-loop-again Inv-loop μ-loop
 loop-again c =
     let i = c .before .before .before .before .before .loop .inv in
-    let T = visited (i .0) (found (c .before .before .before .before .is-empty .ensures)
-    (c .before .before .before .if1 .taken) (c .before .before .lowest .ensures)) (c .without .ensures) in
-    (λ x h. i .0 x (T .rest x .0 h .0), writing-more T (c .before .with-value .ensures) (omega (arith, c .before .with-value .ok)) (i .1))
+    let T = visit-next (i .0) (c .before .before .before .before .is-empty .ensures)
+    (c .before .before .before .if1 .taken) (c .before .before .lowest .ensures) (c .without-lowest .ensures) in
+    (visit-within T, writing-more T (c .before .with-value .ensures) (omega (arith, c .before .with-value .ok)) (i .1))
 
 returns : tie.Need-returns Inv-loop μ-loop
 returns c = writing-all (c .before .is-empty .ensures .0 (not-false _ (c .if1 .left))) (c .before .before .loop .inv .1)
@@ -67,7 +65,7 @@ set-bytes-spec =
     array-read-with-value
     with-value-requires
     array-write-bytes
-    without-requires
+    without-lowest-requires
     loop-less
     loop-again
     returns)
