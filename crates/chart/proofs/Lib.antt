@@ -7,5 +7,6 @@ pub mod Parts
 pub mod Searches
 pub mod Rows
 pub mod Targets
+pub mod Lowest
 pub mod Relations
 pub mod Standing

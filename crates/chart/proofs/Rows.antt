@@ -1,5 +1,5 @@
 -- Where the transitions of a vertex lead that have a property, as a set, gathered in their order.
-use mathlib.Core.Path.{_≡_, sym, _∙_, subst}
+use mathlib.Core.Path.{_≡_, refl, sym, _∙_, subst}
 use mathlib.Core.Bool.{Bool, true, _&&_}
 use mathlib.Core.List.{List}
 use mathlib.Core.Logic.{by-cases, ⊎-elim, _⊎_, inl, inr, _↔_}
@@ -13,10 +13,11 @@ use Rattle.theory.proofs.Tests.{decides-same, decides-and, decides-eqb}
 use Rattle.bits.specs.declared.sets.Set.{Set}
 use Rattle.bits.specs.First.{Split}
 use Rattle.bits.specs.Sets.{Has, emptySet, Members}
-use Rattle.bits.proofs.Members.{none}
+use Rattle.bits.proofs.Members.{⊎-map, none}
 use Rattle.chart.specs.Bodies.{countOf, fromOf, toOf, WellFormed}
 use Rattle.chart.specs.Leaving.{FromBelow}
 use Rattle.chart.specs.Steps.{Via, At, Stands}
+use Rattle.chart.specs.Images.{LeadsTo}
 
 -- one of them, before transition i, leads from u to w
 abbrev pub ViaBelow : List ℕ → (ℕ → Type 0) → ℕ → ℕ → ℕ → Type 0
@@ -59,6 +60,26 @@ module _ {body : List ℕ} {P : ℕ → Type 0} {u : ℕ} where
   pub via-all : {i end : ℕ} {s : Set} → Split (FromBelow body (u + 1)) (countOf body) end → end ≤ i → Members (ViaBelow body P u i) s
       → Members (Via body P u) s
   via-all S l = via-rest (λ k g h e p. S .above k (omega (arith, g, l)) h (record { is = omega (arith, e) }))
+
+-- every transition has this property
+abbrev pub Every : ℕ → Type 0
+Every i = Unit {0}
+
+module _ {body : List ℕ} {u : ℕ} where
+  pub every-more : {i t : ℕ} {s r : Set} → i < countOf body → fromOf body i ≡ u → toOf body i ≡ t
+      → ((y : ℕ) → Has r y ↔ (Has s y ⊎ (y ≡ t))) → Members (ViaBelow body Every u i) s
+      → Members (ViaBelow body Every u (i + 1)) r
+  every-more h e k W = via-more {flag = true} h e k ((λ z. tt), (λ z. refl))
+      (λ y. ((λ g. ⊎-map (λ a. a) (λ q. (refl, q)) (W y .0 g)), (λ g. W y .1 (⊎-map (λ a. a) (λ (p, q). q) g))))
+
+  pub every-leads : {s : Set} → Members (Via body Every u) s → Members (LeadsTo body u) s
+  every-leads M = record { exactly = λ w h. ((λ g. to (M .exactly w h .0 g)), (λ k. M .exactly w h .1 (back k))) }
+    where
+      to : {w : ℕ} → Via body Every u w → LeadsTo body u w
+      to k = (_, record { at = k .at; within = k .within; leaves = k .leaves; enters = k .enters; holds = record { is = refl } })
+
+      back : {w : ℕ} → LeadsTo body u w → Via body Every u w
+      back (a, k) = record { at = k .at; within = k .within; leaves = k .leaves; enters = k .enters; holds = tt }
 
 -- the properties, tested by bytes that are read
 pub decides-at : {bytes : List ℕ} {i b : ℕ} (x : ℕ) → b ≡ getD bytes i 0 → Decides (eqb b x) (At bytes x i)

@@ -1,7 +1,7 @@
--- The targets of a set by an action, and the actions that it offers, gathered vertex by vertex.
+-- The targets of a vertex by an action, and the actions that a set offers, gathered vertex by vertex.
 use Prim.Native.Nat.{ℕ, suc, _+_, _-_, _*_, _≤_, _<_}
 use mathlib.Core.Path.{_≡_, refl, sym, _∙_, subst}
-use mathlib.Core.Logic.{_≢_, inl, inr, ⊎-elim, by-cases}
+use mathlib.Core.Logic.{_≢_, ⊎-elim, by-cases}
 use mathlib.Core.Bool.{Bool, true, false, cond}
 use mathlib.Core.List.{List, _∷_}
 use native.Mathlib.Decide.{ℕ-discrete, decLt}
@@ -16,24 +16,23 @@ use Rattle.theory.proofs.Tests.{decided, decides-same, decides-and, decides-eqb
 use Rattle.bits.specs.Bits.{Bytes, listFrom}
 use Rattle.bits.specs.declared.sets.Set.{Set}
 use Rattle.bits.specs.First.{Split}
-use Rattle.bits.specs.Sets.{Has, emptySet, Empty, Members, Union}
+use Rattle.bits.specs.Sets.{Empty}
 use Rattle.report.specs.declared.Stage.the-variants as stage
 use Rattle.chart.proofs.Checks.{well-formed}
 use Rattle.chart.proofs.Order.{begin-order, begin-high, at-mid}
 use Rattle.bits.proofs.Gains.{blank}
-use Rattle.bits.proofs.Members.{none}
-use Rattle.bits.proofs.Visits.{Visit}
+use Rattle.bits.proofs.Visits.{Visit, FromPast, past-none, past-still, past-new, past-or, past-all}
 use Rattle.chart.specs.Bodies.{countOf, fromOf, actionOf, WellFormed}
 use Rattle.chart.specs.Checks.{checkOf}
 use Rattle.chart.specs.Leaving.{FromBelow, Begins}
-use Rattle.chart.specs.Steps.{Acts, ActsOf}
-use Rattle.chart.specs.Images.{Image, ActsFrom, Offers, Marks, MarksMore, Stretch, Lower}
+use Rattle.chart.specs.Steps.{Acts}
+use Rattle.chart.specs.Images.{ActsFrom, Offers, Marks, MarksMore, Stretch, Lower}
 
 pub decides-acts : {body : List ℕ} {i b : ℕ} (a : ℕ) → b ≡ actionOf body i → Decides (eqb b a) (Acts body a i)
 decides-acts {b = b} a e = decides-same ((λ p. record { is = sym e ∙ p }), (λ q. e ∙ q .is)) (decides-eqb b a)
 
 -- THE ACTIONS of one vertex do not fall
-actions-sorted : (b : List ℕ) → Bytes b → WellFormed b → (i j : ℕ) → i ≤ j → j < countOf b → fromOf b i ≡ fromOf b j
+pub actions-sorted : (b : List ℕ) → Bytes b → WellFormed b → (i j : ℕ) → i ≤ j → j < countOf b → fromOf b i ≡ fromOf b j
     → actionOf b i ≤ actionOf b j
 actions-sorted b B W i j l h e =
     ⊎-elim (λ z. subst (λ (x : ℕ). actionOf b i ≤ actionOf b x) z (le-refl _))
@@ -76,52 +75,6 @@ row-stretch {u = u} C R h = record {
   within = begin-high R u h;
   leaves = at-mid (R .split u (omega (arith, h))) (R .split (u + 1) (omega (arith, h)));
 }
-
--- THE TARGETS of the vertices of the set that are left no longer
-pub record ImageTo (b : List ℕ) (s left : Set) (a w : ℕ) : Type 0 where
-  pub from : ℕ
-  pub member : Has s from
-  pub past : ¬ Has left from
-  pub acts : ActsOf b from a w
-
-module _ {b : List ℕ} {s : Set} {a : ℕ} where
-  pub image-none : {r : Set} → r ≡ emptySet → Members (ImageTo b s s a) r
-  image-none e = record { exactly = λ w h. ((λ g. absurd (none w (rw e at g))), (λ g. absurd (g .past (g .member)))) }
-
-  pub image-more : {left fewer t q r : Set} {u : ℕ} → Visit s left u fewer → Members (ImageTo b s left a) t
-      → Members (ActsOf b u a) q → Union t q r
-      → Members (ImageTo b s fewer a) r
-  image-more {left} {fewer} {u = u} T M Q U = record {
-    exactly = λ w h. (
-      (λ g. ⊎-elim
-          (λ p. let e = M .exactly w h .0 p in record {
-            from = e .from;
-            member = e .member;
-            past = λ z.
-                e .past (T .rest _ .0 z .0);
-            acts = e .acts;
-          })
-          (λ p. record { from = u; member = T .within u (T .has); past = λ z. T .rest u .0 z .1 refl; acts = Q .exactly w h .0 p })
-          (U w .0 g)),
-      (λ e. U w .1 (by-cases (ℕ-discrete (e .from) u)
-          (λ z. inr (Q .exactly w h .1 (subst (λ (x : ℕ). ActsOf b x a w) z (e .acts))))
-          (λ n. inl (M .exactly w h .1 (record {
-            from = e .from;
-            member = e .member;
-            past = λ z. e .past (T .rest _ .1 (z, n));
-            acts = e .acts;
-          }))))),
-    );
-  }
-
-  pub image-all : {left r : Set} → Empty left → Members (ImageTo b s left a) r → Members (Image b s a) r
-  image-all E M =
-      record {
-        exactly = λ w h. (
-          (λ g. let e = M .exactly w h .0 g in (e .from, e .member, e .acts)),
-          (λ (u, m, k). M .exactly w h .1 (record { from = u; member = m; past = E u; acts = k })),
-        );
-      }
 
 -- THE MARKS of one vertex's actions, before transition i
 abbrev pub ActsBelow : List ℕ → ℕ → ℕ → ℕ → Type 0
@@ -192,24 +145,18 @@ acts-from? b u a = decided (decides-same (
     (decides-below (λ i. decides-and (decides-eqb (fromOf b i) u) (decides-eqb (actionOf b i) a)) (countOf b)))
 
 -- THE MARKS of a set's vertices that are left no longer
-pub record OffersTo (b : List ℕ) (s left : Set) (a : ℕ) : Type 0 where
-  pub from : ℕ
-  pub member : Has s from
-  pub past : ¬ Has left from
-  pub acts : ActsFrom b from a
-
 module _ {b : List ℕ} {s : Set} where
-  pub offers-none : Marks (OffersTo b s s) (replicate 256 0)
+  pub offers-none : Marks (FromPast (ActsFrom b) s s) (replicate 256 0)
   offers-none =
       record {
         long = refl;
         low = λ a. omega (arith, blank 256 a);
-        exactly = λ a h. ((λ e. absurd (omega (arith, e, blank 256 a))), (λ e. absurd (e .past (e .member))));
+        exactly = λ a h. ((λ e. absurd (omega (arith, e, blank 256 a))), (λ g. absurd (past-none g)));
       }
 
   pub offers-more : {left fewer : Set} {u : ℕ} {before after : List ℕ} → Visit s left u fewer
-      → Marks (OffersTo b s left) before → MarksMore (ActsFrom b u) before after
-      → Marks (OffersTo b s fewer) after
+      → Marks (FromPast (ActsFrom b) s left) before → MarksMore (ActsFrom b u) before after
+      → Marks (FromPast (ActsFrom b) s fewer) after
   offers-more {left} {fewer} {u} {before} {after} T M N = record {
     long = N .long ∙ M .long;
     low = low;
@@ -222,31 +169,24 @@ module _ {b : List ℕ} {s : Set} where
           (λ h. omega (arith, List·getD-eq-default after 0 {n = a} (omega (arith, N .long, M .long, h)))))
           (λ e. omega (arith, N .others a e, M .low a))
 
-      to : (a : ℕ) → a < 256 → getD after a 0 ≡ 1 → OffersTo b s fewer a
+      to : (a : ℕ) → a < 256 → getD after a 0 ≡ 1 → FromPast (ActsFrom b) s fewer a
       to a h e = by-cases (acts-from? b u a)
-          (λ k. record { from = u; member = T .within u (T .has); past = λ z. T .rest u .0 z .1 refl; acts = k })
-          (λ k. let o = M .exactly a h .0 (sym (N .others a k) ∙ e) in
-          record { from = o .from; member = o .member; past = λ z. o .past (T .rest _ .0 z .0); acts = o .acts })
+          (λ k. past-new T k)
+          (λ k. past-still T (M .exactly a h .0 (sym (N .others a k) ∙ e)))
 
-      from : (a : ℕ) → a < 256 → OffersTo b s fewer a → getD after a 0 ≡ 1
-      from a h o = by-cases (acts-from? b u a)
+      from : (a : ℕ) → a < 256 → FromPast (ActsFrom b) s fewer a → getD after a 0 ≡ 1
+      from a h g = by-cases (acts-from? b u a)
           (λ k. N .marked a h k)
-          (λ k. N .others a k ∙ M .exactly a
-          h .1 (record {
-            from = o .from;
-            member = o .member;
-            past = λ z. o .past (T .rest _ .1 (z, λ y. k (subst (λ (x : ℕ). ActsFrom b x a) y (o .acts))));
-            acts = o .acts;
-          }))
+          (λ k. N .others a k ∙ M .exactly a h .1 (⊎-elim (λ p. p) (λ p. absurd (k p)) (past-or T g)))
 
-  pub offers-all : {left : Set} {marks : List ℕ} → Empty left → Marks (OffersTo b s left) marks → Marks (Offers b s) marks
+  pub offers-all : {left : Set} {marks : List ℕ} → Empty left → Marks (FromPast (ActsFrom b) s left) marks → Marks (Offers b s) marks
   offers-all E M =
       record {
         long = M .long;
         low = M .low;
         exactly = λ a h. (
-          (λ g. let e = M .exactly a h .0 g in record { from = e .from; member = e .member; acts = e .acts }),
-          (λ o. M .exactly a h .1 (record { from = o .from; member = o .member; past = E _; acts = o .acts })),
+          (λ e. let (u, m, k) = past-all E .0 (M .exactly a h .0 e) in record { from = u; member = m; acts = k }),
+          (λ o. M .exactly a h .1 (past-all E .1 (o .from, o .member, o .acts))),
         );
       }
 

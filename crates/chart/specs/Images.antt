@@ -1,4 +1,5 @@
--- Where an action leads from a set of vertices, and which actions the set offers.
+-- Where an action leads from a set of vertices, which actions the set offers, what leads into a set, and where a vertex
+-- leads.
 use Prim.Native.Nat.{ℕ, _≤_, _<_}
 use mathlib.Core.Path.{_≡_}
 use mathlib.Core.Logic.{_↔_}
@@ -16,6 +17,22 @@ use Rattle.chart.specs.Steps.{ActsOf}
 -- a transition with the action a leads from a vertex of the set to w
 abbrev pub Image : List ℕ → Set → ℕ → ℕ → Type 0
 Image b s a w = (u : ℕ) × Has s u × ActsOf b u a w
+
+-- u has a transition with the action a to a vertex of the set
+pub record ActsInto (b : List ℕ) (u : ℕ) (t : Set) (a : ℕ) : Type 0 where
+  pub to : ℕ
+  pub acts : ActsOf b u a to
+  pub member : Has t to
+
+-- an action leads from a vertex of one set to a vertex of another
+pub record LeadsInto (b : List ℕ) (s t : Set) (a : ℕ) : Type 0 where
+  pub to : ℕ
+  pub image : Image b s a to
+  pub member : Has t to
+
+-- some transition leads from u to w
+abbrev pub LeadsTo : List ℕ → ℕ → ℕ → Type 0
+LeadsTo b u w = (a : ℕ) × ActsOf b u a w
 
 -- u has a transition with the action a
 pub record ActsFrom (b : List ℕ) (u a : ℕ) : Type 0 where

@@ -1,4 +1,5 @@
-// Where an action leads from a set of vertices, and which actions the set offers.
+// Where an action leads from a set of vertices, which actions the set offers, the lowest that leads into another set,
+// and where a vertex leads.
 use bits::Set;
 use bits::byte;
 use report::Stage;
@@ -6,11 +7,13 @@ ghost use mathlib.Core.Path.{_≡_};
 ghost use mathlib.Core.Bool.{cond};
 ghost use Prim.Native.Nat.{_+_, _<_};
 ghost use lib.ListN.{length};
+ghost use Rattle.bits.specs.First.{First};
 ghost use Rattle.bits.specs.Sets.{Members};
 ghost use Rattle.chart.specs.Checks.{checkOf};
 ghost use Rattle.chart.specs.Leaving.{Begins};
 ghost use Rattle.chart.specs.Steps.{ActsOf};
 ghost use Rattle.chart.specs.Images.{Image, ActsFrom, Offers, Marks, MarksMore, markedOf, Stretch, Lower};
+ghost use Rattle.chart.specs.Images.{ActsInto, LeadsInto, LeadsTo};
 
 // From a place among the transitions of u on to another, by eights: their actions do not fall, and those passed are below
 // this one.
@@ -57,9 +60,45 @@ pub fn image(body: &[u8], begins: &[usize; 129], set: Set, action: usize) -> Set
     while !left.is_empty() {
         let u = left.lowest();
         targets = targets.union(action_row(body, begins, u, action));
-        left = left.without(u);
+        left = left.without_lowest();
     }
     targets
+}
+
+// The lowest action below `best` by which u leads into a set, or `best`: the actions of u do not fall, so that the first
+// transition into the set has the lowest.
+fn lowest_of_row(body: &[u8], begins: &[usize; 129], u: usize, aim: Set, best: usize) -> usize
+    requires { ⌜ (checkOf (now body) ≡ Stage.Passed) × Begins (now body) (now begins) × (u < 128) ⌝ }
+    ensures { λ r. ⌜ First (ActsInto (now (body .entry)) u aim) 0 best r ⌝ }
+{
+    let end = begins[u + 1];
+    let mut i = begins[u];
+    while i < end {
+        if aim.contains(byte(body, 4 * i + 4 + 2)) {
+            let action = byte(body, 4 * i + 4 + 1);
+            if action < best {
+                return action;
+            }
+            return best;
+        }
+        i += 1;
+    }
+    best
+}
+
+// The lowest action by which a vertex of a set leads into another set, or 256.
+pub fn lowest_into(body: &[u8], begins: &[usize; 129], set: Set, aim: Set) -> usize
+    requires { ⌜ (checkOf (now body) ≡ Stage.Passed) × Begins (now body) (now begins) ⌝ }
+    ensures { λ r. ⌜ First (LeadsInto (now (body .entry)) set aim) 0 256 r ⌝ }
+{
+    let mut best: usize = 256;
+    let mut left = set;
+    while !left.is_empty() {
+        let u = left.lowest();
+        best = lowest_of_row(body, begins, u, aim, best);
+        left = left.without_lowest();
+    }
+    best
 }
 
 // Marks the actions of the transitions of u.
@@ -90,7 +129,7 @@ pub fn offered(body: &[u8], begins: &[usize; 129], set: Set) -> [u8; 256]
     while !left.is_empty() {
         let u = left.lowest();
         mark_row(body, begins, u, &mut marks);
-        left = left.without(u);
+        left = left.without_lowest();
     }
     marks
 }
@@ -114,4 +153,19 @@ pub fn count_marks(marks: &[u8; 256]) -> usize
         i += 1;
     }
     total
+}
+
+// What the transitions of u lead to.
+pub fn target_row(body: &[u8], begins: &[usize; 129], u: usize) -> Set
+    requires { ⌜ (checkOf (now body) ≡ Stage.Passed) × Begins (now body) (now begins) × (u < 128) ⌝ }
+    ensures { λ r. ⌜ Members (LeadsTo (now (body .entry)) u) r ⌝ }
+{
+    let end = begins[u + 1];
+    let mut set = Set::empty();
+    let mut i = begins[u];
+    while i < end {
+        set = set.with(byte(body, 4 * i + 4 + 2));
+        i += 1;
+    }
+    set
 }

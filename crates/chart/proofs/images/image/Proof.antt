@@ -6,15 +6,15 @@ use Rattle.report.specs.declared.Stage.the-variants as Stage
 use Rattle.bits.specs.Sets.{Has, Members, sizeOf}
 use Rattle.chart.specs.Checks.{checkOf}
 use Rattle.chart.specs.Leaving.{Begins}
-use Rattle.bits.proofs.Visits.{found, visited, visit-less}
-use Rattle.chart.proofs.Targets.{ImageTo, image-none, image-more, image-all}
+use Rattle.chart.specs.Steps.{ActsOf}
+use Rattle.bits.proofs.Visits.{not-empty, found, visit-next, visit-less, visit-within, FromPast, visits-none, visits-more, visits-all}
 use Rattle.chart.proofs.images.image.Statement.{statement}
 use Rattle.chart.proofs.images.image.Tie as tie
 
 abbrev Inv-loop : tie.InvT-loop
 Inv-loop body begins action targets₀ left₀ targets left =
     (checkOf body ≡ Stage.Passed) × Begins body begins × ((x : ℕ) → Has left x → Has left₀ x)
-    × Members (ImageTo body left₀ left action) targets
+    × Members (FromPast (λ (u w : ℕ). ActsOf body u action w) left₀ left) targets
 
 abbrev μ-loop : tie.MeasureT-loop
 μ-loop body begins action targets₀ left₀ targets left = sizeOf left
@@ -23,7 +23,7 @@ empty-requires : tie.Need-empty-requires Inv-loop μ-loop
 empty-requires c κs = search needs
 
 loop-holds : tie.Need-loop-holds Inv-loop μ-loop
-loop-holds c = let p = c .before .before .pre in (p .0, p .1, λ x h. h, image-none (c .empty .ensures))
+loop-holds c = let p = c .before .before .pre in (p .0, p .1, λ x h. h, visits-none (c .empty .ensures))
 
 is-empty-requires : tie.Need-is-empty-requires Inv-loop μ-loop
 is-empty-requires c κs = search needs
@@ -39,31 +39,24 @@ action-row-requires c κs =
 union-requires : tie.Need-union-requires Inv-loop μ-loop
 union-requires c κs = search needs
 
-without-requires : tie.Need-without-requires Inv-loop μ-loop
-without-requires c κs =
-    found (c .before .before .before .before .is-empty .ensures) (c .before .before .before .if1 .taken)
-    (c .before .before .lowest .ensures) .below
+without-lowest-requires : tie.Need-without-lowest-requires Inv-loop μ-loop
+without-lowest-requires c κs = not-empty (c .before .before .before .before .is-empty .ensures) (c .before .before .before .if1 .taken)
 
 loop-less : tie.Need-loop-less Inv-loop μ-loop
 loop-less c =
-    visit-less (visited (c .before .before .before .before .before .before .loop .inv .2)
-    (found (c .before .before .before .before .before .is-empty .ensures)
-    (c .before .before .before .before .if1 .taken) (c .before .before .before .lowest .ensures)) (c .without .ensures))
+    visit-less (visit-next (c .before .before .before .before .before .before .loop .inv .2)
+    (c .before .before .before .before .before .is-empty .ensures)
+    (c .before .before .before .before .if1 .taken) (c .before .before .before .lowest .ensures) (c .without-lowest .ensures))
 
 loop-again : tie.Need-loop-again Inv-loop μ-loop
 loop-again c =
     let i = c .before .before .before .before .before .before .loop .inv in
-    let T = visited (i .2) (found (c .before .before .before .before .before .is-empty .ensures)
-    (c .before .before .before .before .if1 .taken) (c .before .before .before .lowest .ensures)) (c .without .ensures) in (
-      i .0,
-      i .1,
-      λ x h. i .2 x (T .rest x .0 h .0),
-      image-more T (i .3) (c .before .before .action-row .ensures)
-          (c .before .union .ensures),
-    )
+    let T = visit-next (i .2) (c .before .before .before .before .before .is-empty .ensures)
+    (c .before .before .before .before .if1 .taken) (c .before .before .before .lowest .ensures) (c .without-lowest .ensures) in
+    (i .0, i .1, visit-within T, visits-more T (i .3) (c .before .before .action-row .ensures) (c .before .union .ensures))
 
 returns : tie.Need-returns Inv-loop μ-loop
-returns c = image-all (c .before .is-empty .ensures .0 (not-false _ (c .if1 .left))) (c .before .before .loop .inv .3)
+returns c = visits-all (c .before .is-empty .ensures .0 (not-false _ (c .if1 .left))) (c .before .before .loop .inv .3)
 
 pub image-spec : {M : Type 1} → statement M
 image-spec =
@@ -77,7 +70,7 @@ image-spec =
     lowest-requires
     action-row-requires
     union-requires
-    without-requires
+    without-lowest-requires
     loop-less
     loop-again
     returns)

@@ -6,15 +6,16 @@ use Rattle.report.specs.declared.Stage.the-variants as Stage
 use Rattle.bits.specs.Sets.{Has, sizeOf}
 use Rattle.chart.specs.Checks.{checkOf}
 use Rattle.chart.specs.Leaving.{Begins}
-use Rattle.chart.specs.Images.{Marks}
-use Rattle.bits.proofs.Visits.{found, visited, visit-less}
-use Rattle.chart.proofs.Targets.{OffersTo, offers-none, offers-more, offers-all}
+use Rattle.chart.specs.Images.{ActsFrom, Marks}
+use Rattle.bits.proofs.Visits.{not-empty, found, visit-next, visit-less, visit-within, FromPast}
+use Rattle.chart.proofs.Targets.{offers-none, offers-more, offers-all}
 use Rattle.chart.proofs.images.offered.Statement.{statement}
 use Rattle.chart.proofs.images.offered.Tie as tie
 
 abbrev Inv-loop : tie.InvT-loop
 Inv-loop body begins marks₀ left₀ marks left =
-    (checkOf body ≡ Stage.Passed) × Begins body begins × ((x : ℕ) → Has left x → Has left₀ x) × Marks (OffersTo body left₀ left) marks
+    (checkOf body ≡ Stage.Passed) × Begins body begins × ((x : ℕ) → Has left x → Has left₀ x)
+    × Marks (FromPast (ActsFrom body) left₀ left) marks
 
 abbrev μ-loop : tie.MeasureT-loop
 μ-loop body begins marks₀ left₀ marks left = sizeOf left
@@ -38,23 +39,21 @@ mark-row-requires c κs =
       i .3 .long,
     )
 
-without-requires : tie.Need-without-requires Inv-loop μ-loop
-without-requires c κs =
-    found (c .before .before .before .before .is-empty .ensures) (c .before .before .before .if1 .taken)
-    (c .before .before .lowest .ensures) .below
+without-lowest-requires : tie.Need-without-lowest-requires Inv-loop μ-loop
+without-lowest-requires c κs = not-empty (c .before .before .before .before .is-empty .ensures) (c .before .before .before .if1 .taken)
 
 loop-less : tie.Need-loop-less Inv-loop μ-loop
 loop-less c =
-    visit-less (visited (c .before .before .before .before .before .before .loop .inv .2)
-    (found (c .before .before .before .before .before .is-empty .ensures)
-    (c .before .before .before .before .if1 .taken) (c .before .before .before .lowest .ensures)) (c .without .ensures))
+    visit-less (visit-next (c .before .before .before .before .before .before .loop .inv .2)
+    (c .before .before .before .before .before .is-empty .ensures)
+    (c .before .before .before .before .if1 .taken) (c .before .before .before .lowest .ensures) (c .without-lowest .ensures))
 
 loop-again : tie.Need-loop-again Inv-loop μ-loop
 loop-again c =
     let i = c .before .before .before .before .before .before .loop .inv in
-    let T = visited (i .2) (found (c .before .before .before .before .before .is-empty .ensures)
-    (c .before .before .before .before .if1 .taken) (c .before .before .before .lowest .ensures)) (c .without .ensures) in
-    (i .0, i .1, λ x h. i .2 x (T .rest x .0 h .0), offers-more T (i .3) (c .before .mark-row .ensures))
+    let T = visit-next (i .2) (c .before .before .before .before .before .is-empty .ensures)
+    (c .before .before .before .before .if1 .taken) (c .before .before .before .lowest .ensures) (c .without-lowest .ensures) in
+    (i .0, i .1, visit-within T, offers-more T (i .3) (c .before .mark-row .ensures))
 
 returns : tie.Need-returns Inv-loop μ-loop
 returns c = offers-all (c .before .is-empty .ensures .0 (not-false _ (c .if1 .left))) (c .before .before .loop .inv .3)
@@ -69,7 +68,7 @@ offered-spec =
     is-empty-requires
     lowest-requires
     mark-row-requires
-    without-requires
+    without-lowest-requires
     loop-less
     loop-again
     returns)
