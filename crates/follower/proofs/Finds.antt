@@ -69,7 +69,7 @@ module _ (b : List ℕ) (W : WellFormed b) (B : Bytes b) where
   M = machineOf b
 
   -- the moves of the body's machine are the body's transitions
-  move-acts : (u a w : ℕ) → List·Memᴰ (a, w) (M .moves u) ↔ ActsOf b u a w
+  pub move-acts : (u a w : ℕ) → List·Memᴰ (a, w) (M .moves u) ↔ ActsOf b u a w
   move-acts u a w = (
     (λ m. let (x, s, e) = chart-machine (startOf b) (transitionsOf b) .forth u u refl a w m in acts-member b u a w .1 (rw e s)),
     (λ k. let (x, s, e) = chart-machine (startOf b) (transitionsOf b) .back u u refl a w

@@ -7,8 +7,8 @@ use mathlib.Core.Bool.{Bool}
 use mathlib.Core.List.{List, map, List·Memᴰ, Memᴰ·of-map}
 use lib.ListN.{length}
 use Rattle.theory.specs.Events.{Call, restart, event, Word, Answer, answer, refused-53, eventRule}
-use Rattle.theory.specs.Followers.{Responds}
-use Rattle.theory.specs.Runs.{run}
+use Rattle.theory.specs.Followers.{Responds, Follows}
+use Rattle.theory.specs.Runs.{run, runLeaves}
 use Rattle.theory.proofs.Followers.{one-answers, from-fresh}
 use Rattle.theory.proofs.Events.{never-refused}
 use Rattle.theory.proofs.Runs.{run-follows}
@@ -26,16 +26,23 @@ ready : {b s : List ℕ} (c : Call) → SetPasses b s → Ready b s c
 ready restart p = tt
 ready (event a) p = p
 
+-- the answers ys to a list of calls on the state s are the rule's, and so is the state t after them
+pub record RunRuled (b s : List ℕ) (cs : List Call) (ys : List Followed) (t : List ℕ) : Type 1 where
+  pub answers : List Answer
+  pub written : ys ≡ map followedAs answers
+  pub follows : Follows eventRule (chartOf b) (InState s) tt cs answers (InState t) tt
+
 module _ {b : List ℕ} (W : WellFormed b) where
   -- whatever answers and leaves what one call on the state does, where 53 passes
   module _ {S : Type 0} (f : S → Call → Followed × S) (set : S → List ℕ)
       (same : (s : S) (c : Call) → StateBytes (set s) → Gives (called b (record { set = set s }) c) (f s c .0) (set (f s c .1))) where
-    list-follows : (s : S) → FreshStart b (set s) → (cs : List Call) → ByRule b cs (run f cs s)
-    list-follows s F cs =
+    run-ruled : (s : S) → StateBytes (set s) → SetPasses b (set s) → (cs : List Call) → RunRuled b (set s) cs (run f cs s)
+        (set (runLeaves f cs s))
+    run-ruled s G p cs =
         let (xs, e, h, g) =
         run-follows eventRule (chartOf b) f followedAs (λ s. InState (set s)) (λ s. tt)
-        (λ s. StateBytes (set s) × SetPasses b (set s)) each cs s (F .state, fresh-passes W F) in
-        record { answers = xs; written = e; rule = from-fresh eventRule (chartOf b) (F .alone) h }
+        (λ s. StateBytes (set s) × SetPasses b (set s)) each cs s (G, p) in
+        record { answers = xs; written = e; follows = h }
       where
         each : (s : S) (c : Call) → StateBytes (set s) × SetPasses b (set s)
             → (x : Answer) × (f s c .0 ≡ followedAs x)
@@ -46,6 +53,11 @@ module _ {b : List ℕ} (W : WellFormed b) where
             let (e, q) = same s c S in
             let r = subst (λ t. Responds eventRule (chartOf b) (InState (set s)) tt c (R .answer) (InState t) tt) q (R .responds) in
             (R .answer, sym e ∙ R .answered, r, (subst StateBytes q (R .state), still-passes W p r))
+
+    list-follows : (s : S) → FreshStart b (set s) → (cs : List Call) → ByRule b cs (run f cs s)
+    list-follows s F cs =
+        let R = run-ruled s (F .state) (fresh-passes W F) cs in
+        record { answers = R .answers; written = R .written; rule = from-fresh eventRule (chartOf b) (F .alone) (R .follows) }
 
   -- BY VALUE, IN PLACE AND LENT
   pub by-value-follows : (f : Follower) → FreshStart b (f .set) → (cs : List Call) → ByRule b cs (run (byValue b) cs f)
@@ -59,11 +71,19 @@ module _ {b : List ℕ} (W : WellFormed b) where
   pub in-place-follows : (f : Follower) → FreshStart b (f .set) → (cs : List Call) → ByRule b cs (run (inPlace b) cs f)
   in-place-follows = list-follows (inPlace b) (λ f. f .set) (λ f c S. (refl, refl))
 
-  pub lent-follows : (s : List ℕ) → FreshStart b s → (cs : List Call) → ByRule b cs (run (lent b) cs s)
-  lent-follows = list-follows (lent b) (λ s. s) (λ s c S. same (lent-sixteen b s (S .sixteen) c))
+  lent-same : (s : List ℕ) (c : Call) → StateBytes s → Gives (called b (record { set = s }) c) (lent b s c .0) (lent b s c .1)
+  lent-same s c S = same (lent-sixteen b s (S .sixteen) c)
     where
       same : {m n : Moved} → n ≡ m → Gives m (n .answer) (n .follower .set)
       same e = (ap (λ m. m .answer) (sym e), ap (λ m. m .follower .set) (sym e))
+
+  pub lent-follows : (s : List ℕ) → FreshStart b s → (cs : List Call) → ByRule b cs (run (lent b) cs s)
+  lent-follows = list-follows (lent b) (λ s. s) lent-same
+
+  -- from any state that passes
+  pub lent-run : (s : List ℕ) → StateBytes s → SetPasses b s → (cs : List Call)
+      → RunRuled b s cs (run (lent b) cs s) (runLeaves (lent b) cs s)
+  lent-run = run-ruled (lent b) (λ s. s) lent-same
 
   -- FRESH STARTS: what a restart hands back or leaves
   pub fresh-in-place : (f : Follower) → FreshStart b (restartFrom b f .follower .set)

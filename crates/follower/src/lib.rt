@@ -1,4 +1,7 @@
-// The follower of events over a chart body: by value, over lent bytes, and with its state itself lent.
+// The follower of events over a chart body: by value, over lent bytes, and with its state itself lent; and the shortest way
+// from its state to the end.
+mod ways;
+
 use bits::Set;
 use bits::byte;
 use bits::read_set;
@@ -8,6 +11,8 @@ use chart::images::image;
 use chart::images::offered;
 use report::Followed;
 use report::Stage;
+use report::Way;
+use ways::way_from;
 ghost use mathlib.Core.Path.{_≡_};
 ghost use mathlib.Core.Bool.{true};
 ghost use mathlib.Core.Logic.{_↔_};
@@ -18,6 +23,7 @@ ghost use Rattle.chart.specs.Checks.{checkOf};
 ghost use Rattle.chart.specs.Leaving.{Begins};
 ghost use Rattle.follower.specs.Parts.{CountOffered};
 ghost use Rattle.follower.specs.States.{eventOf, restartFrom, restartOf, restarted, eventLent, restartLent};
+ghost use Rattle.follower.specs.Ways.{wayOf, wayLeft};
 
 // The state: a set of vertices in sixteen bytes, bits as in a row of a relation.
 pub struct Follower {
@@ -234,4 +240,26 @@ pub fn restart_through(chart: &[u8], follower: Follower) -> Moved
         answer,
         follower: lent,
     }
+}
+
+// Writes the shortest list of events after which the end is in the set of a state, of those the lowest, to the beginning of
+// the lent bytes; those past it are kept. The state is only read. A refusal changes no lent byte.
+pub fn shortest_way(chart: &[u8], state: &[u8], out: &mut [u8]) -> Way
+    ensures { λ r. ⌜ (r ≡ wayOf (now (chart .entry)) (now (state .entry)) (length (now (out .entry))))
+        × (now (out .exit) ≡ wayLeft (now (chart .entry)) (now (state .entry)) (now (out .entry))) ⌝ }
+{
+    match chart::check(chart) {
+        Stage::Refused(place) => {
+            return Way::Refused(place);
+        }
+        Stage::Passed => {}
+    }
+    if state.len() != 16 {
+        return Way::FollowerSet;
+    }
+    let set = read_set(state, 0);
+    if !set_fits(set, byte(chart, 0)) {
+        return Way::FollowerSet;
+    }
+    way_from(chart, set, out)
 }

@@ -1,0 +1,283 @@
+-- The shortest way: what the definitions answer and leave is what document 02 says, both ways; and so is what the code finds.
+use Prim.Native.Nat.{ℕ, _*_, _+_, _≤_, _<_}
+use mathlib.Core.Path.{_≡_, refl, sym, ap, _∙_, subst}
+use mathlib.Core.Logic.{_↔_, Iff·symm, Iff·trans, ⊎-elim, by-cases}
+use mathlib.Core.Bool.{true}
+use mathlib.Core.List.{List, map, List·Memᴰ, Memᴰ·of-map, _++_}
+use native.Mathlib.Decide.{decLt}
+use native.Mathlib.Nat.{le-refl}
+use native.Mathlib.Omega.{arith}
+use lib.ListN.{length, drop}
+use borrow.Author.Tests.{lt-ltb, le-ltb}
+use Rattle.theory.specs.Least.{Least}
+use Rattle.theory.specs.Tests.{Decides}
+use Rattle.theory.specs.Systems.{System}
+use Rattle.theory.specs.Followers.{StateSet, HoldsEnd, Follows}
+use Rattle.theory.specs.Events.{event, Answer, taken, eventRule}
+use Rattle.theory.specs.Runs.{Machine, system, MembersOf}
+use Rattle.theory.specs.Ways.{Shortest, EndsFrom, LowestOf}
+use Rattle.theory.proofs.Search.{least-one}
+use Rattle.theory.proofs.Tests.{decided, is-false, decides-same, decides-and, decides-eqb}
+use Rattle.theory.proofs.Systems.{equal-states, lift-equal}
+use Rattle.theory.proofs.Runs.{chart-machine}
+use Rattle.theory.proofs.Ways.{one-shortest, shortest-same, shortest-path, no-list, ends-follow, ends-carried, ends-short, shortest-few, one-lowest, lowest-carried}
+use Rattle.theory.proofs.WayTests.{SomeEndsIn, steps-least, steps-none, list-long, lowest-list, shortest-list}
+use Rattle.report.specs.declared.Place.{Place}
+use Rattle.report.specs.declared.Place.the-variants as place
+use Rattle.report.specs.declared.Stage.{Stage}
+use Rattle.report.specs.declared.Stage.the-variants as stage
+use Rattle.report.specs.declared.Way.{Way}
+use Rattle.report.specs.declared.Way.the-variants.{Length, Refused, FollowerSet, NoWay}
+use Rattle.bits.specs.Bits.{Bytes}
+use Rattle.bits.specs.declared.sets.Set.{Set}
+use Rattle.bits.specs.Sets.{Has, Empty}
+use Rattle.chart.specs.Bodies.{verticesOf, startOf, WellFormed}
+use Rattle.chart.specs.Checks.{checkOf}
+use Rattle.chart.proofs.Checks.{well-formed, passes, check-20, check-21}
+use Rattle.chart.proofs.Refusals.{refused-places}
+use Rattle.chart.proofs.Relations.{acts-member}
+use Rattle.follower.specs.States.{membersOf, machineOf, followedAs}
+use Rattle.follower.specs.FollowerAnswers.{chartOf, StateBytes, InState, SetPasses}
+use Rattle.follower.specs.Ways.{eventsToEnd, shortestList, stateTest, wayOf, wayLeft, bytesWith}
+use Rattle.follower.specs.WayAnswers.{eventAnswers, afterEvents, EndsAfter, ShortestWay, OnlyTaken, NoEnd, StatePasses, WayAnswer, other-header, faulty-at, no-state, no-way, too-short, written}
+use Rattle.follower.specs.Layers as layers
+use Rattle.follower.specs.Layers.{actsChart, SomeEnds, WayFrom}
+use Rattle.follower.proofs.Bytes.{members-are}
+use Rattle.follower.proofs.Calls.{tests-set}
+use Rattle.follower.proofs.Lists.{lent-run}
+use Rattle.follower.proofs.Finds.{Same, move-acts, set-tested}
+
+-- the answer x and the lent bytes t are what is handed back and left
+abbrev pub WayGives : (b s out : List ℕ) → Way → List ℕ → Type 0
+WayGives b s out x t = (wayOf b s (length out) ≡ x) × (wayLeft b s out ≡ t)
+
+given : {b s out : List ℕ} {x : Way} {t : List ℕ} → WayGives b s out x t → WayAnswer b s out x t
+    → WayAnswer b s out (wayOf b s (length out)) (wayLeft b s out)
+given (p, q) h = rw (p, q) h
+
+-- as the contract has it
+pub both-sym : {A B : Type 0} {x y : A} {u v : B} → (x ≡ y) × (u ≡ v) → (y ≡ x) × (v ≡ u)
+both-sym (p, q) = (sym p, sym q)
+
+-- STATES THAT PASS
+module _ {b s : List ℕ} (B : Bytes b) (D : Bytes s) (P : StatePasses b s) where
+  abbrev C : System
+  C = chartOf b
+
+  abbrev M : Machine
+  M = machineOf b
+
+  state : StateBytes s
+  state = record { sixteen = P .sixteen; bytes = D }
+
+  -- by the follower's own events
+  follows : (xs : List ℕ) → (Q : StateSet C) × (rs : List Answer)
+      × Follows eventRule C (InState s) tt (map event xs) rs Q tt × (EndsAfter b s xs ↔ HoldsEnd C Q)
+  follows xs =
+      let R = lent-run (P .chart) s state (P .set) (map event xs) in (
+        InState (afterEvents b s xs),
+        R .answers,
+        R .follows,
+        ((λ h. (0, h, refl)), (λ (x, h, e). subst (InState (afterEvents b s xs)) e h)),
+      )
+
+  -- by paths in the chart, and in its machine
+  by-paths : (xs : List ℕ) → ShortestWay b s xs ↔ Shortest (EndsFrom C (InState s)) xs
+  by-paths = shortest-path C follows
+
+  carried : (xs : List ℕ) → EndsFrom (system M) (MembersOf M (membersOf s)) xs ↔ EndsFrom C (InState s) xs
+  carried = ends-carried (chart-machine _ _) (lift-equal (members-are s))
+
+  target-low : (u a w : ℕ) → C .Step u a w → w < verticesOf b
+  target-low u a w m =
+      let t = acts-member b u a w .1 m in
+      omega (arith, t .enters, P .chart .each (t .at) (t .within) .to-high)
+
+  action-byte : (u a w : ℕ) → List·Memᴰ (a, w) (M .moves u) → a < 256
+  action-byte u a w m = let t = move-acts b (P .chart) B u a w .0 m in omega (arith, t .holds .is, B (4 * t .at + 4 + 1))
+
+  -- THE TESTS FIND IT: the list, and how long it is
+  pub list-found : eventsToEnd b s < verticesOf b → ShortestWay b s (shortestList b s)
+  unfolding eventsToEnd shortestList
+  list-found h =
+      by-paths _ .1 (shortest-same carried _ .0 (shortest-list M action-byte (verticesOf b) (membersOf s) h))
+
+  pub none-found : verticesOf b ≤ eventsToEnd b s → NoEnd b s
+  unfolding eventsToEnd
+  none-found h = no-list C follows .0 none
+    where
+      none : (xs : List ℕ) → ¬ EndsFrom C (InState s) xs
+      none xs (x, i, e) =
+          let (ys, l, f) = ends-short (startOf b) target-low (length xs) (le-refl _) (P .set .below x i) e in
+          let (y, m, g) = carried ys .1 (x, i, f) in
+          steps-none M (verticesOf b) (membersOf s) h (length ys) l (y, m, (ys, refl, g))
+
+  pub found-low : {xs : List ℕ} → ShortestWay b s xs → eventsToEnd b s < verticesOf b
+  found-low {xs} S =
+      by-cases (decLt (eventsToEnd b s) (verticesOf b)) (λ h. h) (λ h. absurd (none-found (omega arith) xs (S .holds)))
+
+  pub unreached : NoEnd b s → verticesOf b ≤ eventsToEnd b s
+  unreached n =
+      by-cases (decLt (eventsToEnd b s) (verticesOf b))
+      (λ h. absurd (n (shortestList b s) (list-found h .holds))) (λ h. omega arith)
+
+  -- it is the only one
+  pub found-one : {xs : List ℕ} → ShortestWay b s xs → xs ≡ shortestList b s
+  found-one S = one-shortest S (list-found (found-low S))
+
+  length-found : {xs : List ℕ} → ShortestWay b s xs → length xs ≡ eventsToEnd b s
+  unfolding shortestList
+  length-found S = ap length (found-one S) ∙ list-long M (eventsToEnd b s) (membersOf s)
+
+  -- A SHORTEST LIST has fewer events than there are vertices, and all of them are taken
+  pub way-few : {xs : List ℕ} → ShortestWay b s xs → length xs < verticesOf b
+  way-few S = shortest-few (startOf b) target-low (P .set .below) (by-paths _ .0 S)
+
+  pub way-taken : {xs : List ℕ} → ShortestWay b s xs → OnlyTaken (eventAnswers b s xs)
+  way-taken {xs} S y m =
+      let R = lent-run (P .chart) s state (P .set) (map event xs) in
+      let (x, i, q) = Memᴰ·of-map followedAs (R .answers) (rw (R .written) at m) in
+      let (w, e) = ends-follow C xs (R .follows) (by-paths xs .0 S .holds) .1 x i in
+      (w .end, length (w .offered), sym q ∙ ap followedAs e)
+
+  -- 20, 21 AND 53 PASSED: 55, 54, and the list
+  passed-53 : stateTest b s ≡ true
+  passed-53 = decides-and (decides-eqb (length s) 16) (tests-set b s) .1 (P .sixteen, P .set)
+
+  module _ (out : List ℕ) where
+    pub way-none : verticesOf b ≤ eventsToEnd b s → WayGives b s out NoWay out
+    unfolding wayOf wayLeft
+    way-none h = rw (passes b (P .chart), passed-53, le-ltb (eventsToEnd b s) (verticesOf b) h) (refl, refl)
+
+    pub way-short : eventsToEnd b s < verticesOf b → length out < eventsToEnd b s
+        → WayGives b s out (Refused (place.OutputLength (eventsToEnd b s))) out
+    unfolding wayOf wayLeft
+    way-short h l =
+        rw (passes b (P .chart), passed-53, lt-ltb (eventsToEnd b s) (verticesOf b) h, lt-ltb (length out) (eventsToEnd b s) l) (refl, refl)
+
+    pub way-written : eventsToEnd b s < verticesOf b → eventsToEnd b s ≤ length out
+        → WayGives b s out (Length (eventsToEnd b s)) (bytesWith (shortestList b s) out)
+    unfolding wayOf wayLeft
+    way-written h l =
+        rw (passes b (P .chart), passed-53, lt-ltb (eventsToEnd b s) (verticesOf b) h, le-ltb (length out) (eventsToEnd b s) l) (refl, refl)
+
+    -- with the list at hand
+    pub list-short : {xs : List ℕ} → ShortestWay b s xs → length out < length xs
+        → WayGives b s out (Refused (place.OutputLength (length xs))) out
+    list-short {xs} S l =
+        let e = length-found S in rw e (way-short (found-low S) (omega (arith, e, l)))
+
+    pub list-written : {xs : List ℕ} → ShortestWay b s xs → length xs ≤ length out
+        → WayGives b s out (Length (length xs)) (bytesWith xs out)
+    list-written {xs} S l =
+        let e = length-found S in
+        let (p, q) = way-written (found-low S) (omega (arith, e, l)) in
+        (p ∙ ap Length (sym e), q ∙ ap (λ (ys : List ℕ). bytesWith ys out) (sym (found-one S)))
+
+    pub passed-answer : WayAnswer b s out (wayOf b s (length out)) (wayLeft b s out)
+    passed-answer =
+        by-cases (decLt (eventsToEnd b s) (verticesOf b))
+        (λ h. let S = list-found h in by-cases (decLt (length out) (length (shortestList b s)))
+        (λ l. given (list-short S l) (too-short P S l))
+        (λ l. given (list-written S (omega arith)) (written P S (omega arith))))
+        (λ h. given (way-none (omega arith)) (no-way P (none-found (omega arith))))
+
+-- THE STAGES of the call
+module _ (b s out : List ℕ) where
+  -- 20 and 21
+  pub way-refused : {p : Place} → checkOf b ≡ stage.Refused p → WayGives b s out (Refused p) out
+  unfolding wayOf wayLeft
+  way-refused e = rw e (refl, refl)
+
+  chart-answer : (p : Place) → checkOf b ≡ stage.Refused p → WayAnswer b s out (Refused p) out
+  chart-answer p e =
+      ⊎-elim
+      (λ q. rw q (other-header (check-20 b .0 (rw q at e))))
+      (λ (i, q). let (h, f) = check-21 b i .0 (rw q at e) in rw q (faulty-at h f))
+      (refused-places b e)
+
+  -- 53
+  state-tested : WellFormed b → Decides (stateTest b s) (StatePasses b s)
+  state-tested W = decides-same (
+    (λ (l, p). record { chart = W; sixteen = l; set = p }),
+    (λ P. (P .sixteen, P .set)),
+  )
+      (decides-and (decides-eqb (length s) 16) (tests-set b s))
+
+  pub way-no-state : WellFormed b → ¬ StatePasses b s → WayGives b s out FollowerSet out
+  unfolding wayOf wayLeft
+  way-no-state W n = rw (passes b W, is-false (state-tested W) n) (refl, refl)
+
+module _ (b s out : List ℕ) (B : Bytes b) (D : Bytes s) where
+  way-answer : WayAnswer b s out (wayOf b s (length out)) (wayLeft b s out)
+  way-answer = go (checkOf b) refl
+    where
+      go : (x : Stage) → checkOf b ≡ x → WayAnswer b s out (wayOf b s (length out)) (wayLeft b s out)
+      go (stage.Refused p) e = given (way-refused b s out e) (chart-answer b s out p e)
+      go stage.Passed e =
+          let W = well-formed b e in
+          by-cases (decided (state-tested b s out W))
+          (λ P. passed-answer B D P out)
+          (λ n. given (way-no-state b s out W n) (no-state W n))
+
+  answer-way : {x : Way} {t : List ℕ} → WayAnswer b s out x t → WayGives b s out x t
+  answer-way (other-header h) = way-refused b s out (check-20 b .1 h)
+  answer-way (faulty-at h f) = way-refused b s out (check-21 b _ .1 (h, f))
+  answer-way (no-state W n) = way-no-state b s out W n
+  answer-way (no-way P n) = way-none B D P out (unreached B D P n)
+  answer-way (too-short P S l) = list-short B D P out S l
+  answer-way (written P S l) = list-written B D P out S l
+
+  -- THE CALL answers x and leaves t exactly where document 02 says so
+  pub way-says : (x : Way) (t : List ℕ) → WayGives b s out x t ↔ WayAnswer b s out x t
+  way-says x t = ((λ (p, q). rw (p, q) at way-answer), answer-way)
+
+-- what the code asks of the set is 53
+pub set-passes : (b s : List ℕ) {set : Set} → Same set (membersOf s)
+    → SetPasses b s ↔ ((¬ Empty set) × ((w : ℕ) → Has set w → w < verticesOf b))
+set-passes b s S = Iff·trans (Iff·symm (tests-set b s)) (set-tested b s S)
+
+-- THE CODE'S ANSWER, of a set that has the state's vertices
+module _ {b s : List ℕ} (B : Bytes b) (D : Bytes s) (P : StatePasses b s) {set : Set} (S : Same set (membersOf s)) where
+  listed : (xs : List ℕ) → EndsFrom (system (machineOf b)) (MembersOf (machineOf b) (membersOf s)) xs ↔ EndsFrom (actsChart b) (Has set) xs
+  listed =
+      ends-carried (equal-states (λ v. decides-eqb v 0) (λ u a w. move-acts b (P .chart) B u a w)) (lift-equal (λ v. Iff·symm (S v)))
+
+  some-listed : (n : ℕ) → SomeEndsIn (machineOf b) (membersOf s) n ↔ SomeEnds b set n
+  some-listed n = (
+    (λ (x, m, (xs, l, e)). let (y, h, f) = listed xs .0 (x, m, e) in (y, h, (xs, l, f))),
+    (λ (x, m, (xs, l, e)). let (y, h, f) = listed xs .1 (x, m, e) in (y, h, (xs, l, f))),
+  )
+
+  same-number : {d : ℕ} → d < verticesOf b → Least (SomeEnds b set) d → eventsToEnd b s ≡ d
+  unfolding eventsToEnd
+  same-number {d} l L =
+      by-cases (decLt (eventsToEnd b s) (verticesOf b))
+      (λ h. let K = steps-least (machineOf b) (verticesOf b) (membersOf s) h in
+      least-one (record { holds = some-listed _ .0 (K .holds); lowest = λ k g e. K .lowest k g (some-listed k .1 e) }) L)
+      (λ h. absurd (steps-none (machineOf b) (verticesOf b) (membersOf s) (omega arith) d l (some-listed d .1 (L .holds))))
+
+  same-list : {d : ℕ} {xs : List ℕ} → eventsToEnd b s ≡ d → Least (SomeEnds b set) d → LowestOf (actsChart b) d (Has set) xs
+      → xs ≡ shortestList b s
+  unfolding shortestList
+  same-list {d} e L K =
+      one-lowest (actsChart b) K
+      (rw e (lowest-carried listed (lowest-list (machineOf b) (action-byte B D P) d (membersOf s) (some-listed d .1 (L .holds)))))
+
+  pub found-way : {out t : List ℕ} {x : Way} → WayFrom b set out x t → WayGives b s out x t
+  unfolding eventsToEnd
+  found-way {out} (layers.no-way f) = way-none B D P out (by-cases (decLt (eventsToEnd b s) (verticesOf b))
+      (λ h. absurd (f _ h (some-listed _ .0 (steps-least (machineOf b) (verticesOf b) (membersOf s) h .holds))))
+      (λ h. omega arith))
+  found-way {out} (layers.too-short {d} l L n) =
+      let e = same-number l L in
+      subst (λ (k : ℕ). WayGives b s out (Refused (place.OutputLength k)) out) e
+      (way-short B D P out (omega (arith, e)) (omega (arith, e, n)))
+  found-way {out} (layers.written {d} {t} l L n R) =
+      let e = same-number l L in
+      let q = same-list e L (R .lowest) in
+      let (y, z) = way-written B D P out (omega (arith, e)) (omega (arith, e, n)) in (
+        y ∙ ap Length e,
+        z ∙ ap (λ (xs : List ℕ). bytesWith xs out) (sym q)
+            ∙ ap (λ (k : ℕ). R .list ++ drop k out) (R .lowest .long) ∙ sym (R .left),
+      )
