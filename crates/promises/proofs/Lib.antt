@@ -1,6 +1,7 @@
--- The proofs of the demands.
+-- The proofs of the demands, and of what document 02 asks.
 pub mod Demand1
 pub mod FollowerNumbers
 pub mod Demand2
 pub mod Demand3
 pub mod Accepted
+pub mod ShortestWay

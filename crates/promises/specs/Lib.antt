@@ -5,3 +5,5 @@ pub mod Demand2
 pub mod Demand3
 -- what an accepted file is
 pub mod Accepted
+-- document 02: the shortest way
+pub mod ShortestWay
