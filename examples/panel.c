@@ -1,6 +1,7 @@
 /* A small panel: `panel FILE` has a yard file checked, restarts over its chart and follows the actions
  * whose numbers come in on standard input. For each it says whether it is taken, whether the end is
- * reached, and how many actions are offered next.
+ * reached, and how many actions are offered next. Where `?` comes in, it says which actions finish the
+ * run.
  *
  * Exit status: 0; 1 where something is refused; 2 where the file cannot be read. */
 #include "sequence.h"
@@ -40,8 +41,19 @@ static void print_followed(seq_numbers said)
     printf("%s, end %s, offered %" PRIu64 "\n", said.p ? "taken" : "not possible", said.q ? "yes" : "no", said.r);
 }
 
-/* Where the next word of the input is no action, and where there is none. */
-enum { NO_ACTION = 256, NO_WORD };
+/* The shortest way to the end. After a call with the same chart and state, none but 55 can be refused. */
+static void print_way(const uint8_t *chart, size_t chart_len, const uint8_t *state)
+{
+    uint8_t way[SEQ_LONGEST_WAY];
+    seq_numbers said = seq_shortest_way(chart, chart_len, state, SEQ_STATE, way, sizeof way);
+    printf("way:%s", said.n == 55 ? " none" : said.p == 0 ? " at the end" : "");
+    for (uint64_t i = 0; i < said.p; i++)
+        printf(" %d", way[i]);
+    printf("\n");
+}
+
+/* Where the next word of the input is no action, where there is none, and where it asks for the way. */
+enum { NO_ACTION = 256, NO_WORD, ASKS_WAY };
 
 static int next_action(void)
 {
@@ -51,6 +63,8 @@ static int next_action(void)
         c = getchar();
     if (c == EOF)
         return NO_WORD;
+    if (c == '?')
+        return ASKS_WAY;
     for (; c != EOF && !isspace(c); c = getchar()) {
         action = isdigit(c) ? 10 * action + (c - '0') : NO_ACTION;
         if (action > NO_ACTION)
@@ -68,6 +82,10 @@ static int follow(const uint8_t *chart, size_t chart_len)
     printf("restart: ");
     print_followed(said);
     for (int action = next_action(); action != NO_WORD; action = next_action()) {
+        if (action == ASKS_WAY) {
+            print_way(chart, chart_len, state);
+            continue;
+        }
         if (action == NO_ACTION) {
             printf("no action: an action is a number from 0 to 255\n");
             continue;

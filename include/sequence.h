@@ -3,7 +3,7 @@
  * A slice is two arguments, a pointer and then its length in bytes; NULL with length 0 is an empty
  * slice. The slices of one call must not overlap. Whatever the bytes are, a call answers; it keeps no
  * pointer and no state, allocates nothing, and needs memcpy and memset and less than 128 KiB of
- * stack, seq_remove, seq_restart and seq_event less than 32 KiB. */
+ * stack, seq_remove, seq_restart, seq_event and seq_shortest_way less than 32 KiB. */
 #ifndef SEQUENCE_H
 #define SEQUENCE_H
 
@@ -29,6 +29,9 @@ typedef struct seq_numbers {
 
 /* The length of a follower's state, in bytes. */
 #define SEQ_STATE 16
+
+/* The longest list of events that seq_shortest_way writes. */
+#define SEQ_LONGEST_WAY 127
 
 /* The verdict on a yard file.
  *
@@ -80,6 +83,18 @@ seq_numbers seq_restart(const uint8_t *chart, size_t chart_len, uint8_t *state, 
  * of it is not below the chart's number of vertices. No byte of state is changed.
  * The chart is only read. */
 seq_numbers seq_event(const uint8_t *chart, size_t chart_len, uint8_t *state, size_t state_len, uint8_t action);
+
+/* Writes the shortest list of events after which the end is in the set to the beginning of out, a byte
+ * for each event; of several lists of that length, the one with the lower action where they first differ.
+ * chart and state are as for seq_event.
+ *
+ * Written: n 0, p the number of events, below the chart's number of vertices, q and r 0. p is 0 where the
+ * end is in the set already. The bytes of out past p are kept.
+ * Refused: n 20 or 21 for the chart; n 53 as for seq_event; n 55 where no list of events leads to the end;
+ * n 54 where out is too short, p the bytes needed. No byte of out is changed.
+ * The chart and the state are only read. SEQ_LONGEST_WAY bytes are enough for every chart. */
+seq_numbers seq_shortest_way(const uint8_t *chart, size_t chart_len, const uint8_t *state, size_t state_len,
+                             uint8_t *out, size_t out_len);
 
 #ifdef __cplusplus
 }

@@ -8,7 +8,8 @@ int main()
     const seq_numbers removed = seq_remove(nullptr, 0, nullptr, 0, 1, 1, nullptr, 0);
     const seq_numbers restarted = seq_restart(nullptr, 0, nullptr, 0);
     const seq_numbers followed = seq_event(nullptr, 0, nullptr, 0, 1);
+    const seq_numbers way = seq_shortest_way(nullptr, 0, nullptr, 0, nullptr, 0);
     const bool read = checked.n == 2 && checked.p == 1 && written.n == 10 && written.p == 0;
-    const bool lent = removed.n == 20 && restarted.n == 20 && followed.n == 20;
+    const bool lent = removed.n == 20 && restarted.n == 20 && followed.n == 20 && way.n == 20;
     return read && lent ? 0 : 1;
 }

@@ -1,5 +1,6 @@
 /* Runs the C library: document 01's starred cases of the check, of the expression's chart, of the
- * removal and of the follower, empty slices, the limits, and lent buffers of each length that matters.
+ * removal and of the follower, shortest ways, empty slices, the limits, and lent buffers of each length
+ * that matters.
  * Prints what is wrong and, last, the count of cases; exits with 1 where something is wrong. */
 #define _DEFAULT_SOURCE
 #include "sequence.h"
@@ -76,23 +77,30 @@ static void expect_check(const char *name, const uint8_t *file, size_t len, seq_
     expect_bytes(name, lent, file, len);
 }
 
-/* Lends bytes that differ from the chart's at each place, and holds the answer and every byte of nodes
- * and output to what is wanted. */
+/* Lends output: bytes that differ at each place from those that are to be written, which p counts. */
+
+static uint8_t out_left[SEQ_LONGEST_CHART + 16];
+
+static uint8_t *lend_out(size_t lent, seq_numbers want, const uint8_t *bytes)
+{
+    size_t written = want.n == 0 ? (size_t)want.p : 0;
+    uint8_t *out = out_end - lent;
+    for (size_t i = 0; i < lent; i++) {
+        out[i] = (uint8_t)(i < written ? 255u - bytes[i] : 0xC0 + i % 31);
+        out_left[i] = i < written ? bytes[i] : out[i];
+    }
+    return out;
+}
+
+/* The answer and every byte of nodes and output are held to what is wanted. */
 static void expect_chart(const char *name, const uint8_t *nodes, size_t nodes_len, size_t lent, seq_numbers want,
                          const uint8_t *chart)
 {
-    static uint8_t stood[SEQ_LONGEST_CHART + 16];
-    static uint8_t left[SEQ_LONGEST_CHART + 16];
-    size_t written = want.n == 0 ? (size_t)want.p : 0;
-    for (size_t i = 0; i < lent; i++) {
-        stood[i] = (uint8_t)(i < written ? 255u - chart[i] : 0xC0 + i % 31);
-        left[i] = i < written ? chart[i] : stood[i];
-    }
     const uint8_t *given = copy_before(file_end, nodes, nodes_len);
-    uint8_t *out = copy_before(out_end, stood, lent);
+    uint8_t *out = lend_out(lent, want, chart);
     cases++;
     expect_numbers(name, seq_write_chart(given, nodes_len, out, lent), want);
-    expect_bytes(name, out, left, lent);
+    expect_bytes(name, out, out_left, lent);
     expect_bytes(name, given, nodes, nodes_len);
 }
 
@@ -237,8 +245,10 @@ static void beginnings_of_g(void)
 static void empty_slices(void)
 {
     static const uint8_t no_transition[4] = {2, 1, 0, 0};
+    static const uint8_t at_end[SEQ_STATE] = {1};
+    static const uint8_t at_start[SEQ_STATE] = {8};
     uint8_t byte = 0xAB;
-    cases += 17;
+    cases += 21;
     expect_numbers("no file", seq_check(NULL, 0), numbers(2, 1, 0, 0));
     expect_numbers("a file of no bytes", seq_check(&byte, 0), numbers(2, 1, 0, 0));
     expect_numbers("no nodes, no output", seq_write_chart(NULL, 0, NULL, 0), numbers(10, 0, 0, 0));
@@ -257,6 +267,12 @@ static void empty_slices(void)
     expect_numbers("no state for an event", seq_event(G_CHART, 20, NULL, 0, 1), numbers(53, 0, 0, 0));
     expect_numbers("a state of no bytes, to restart", seq_restart(G_CHART, 20, &byte, 0), numbers(53, 0, 0, 0));
     expect_numbers("a state of no bytes", seq_event(G_CHART, 20, &byte, 0, 1), numbers(53, 0, 0, 0));
+    expect_numbers("no chart, no way", seq_shortest_way(NULL, 0, NULL, 0, NULL, 0), numbers(20, 0, 0, 0));
+    expect_numbers("no state, no way", seq_shortest_way(G_CHART, 20, NULL, 0, &byte, 1), numbers(53, 0, 0, 0));
+    expect_numbers("no room for a way", seq_shortest_way(G_CHART, 20, at_start, SEQ_STATE, NULL, 0),
+                   numbers(54, 1, 0, 0));
+    expect_numbers("no room needed", seq_shortest_way(G_CHART, 20, at_end, SEQ_STATE, NULL, 0),
+                   numbers(0, 0, 0, 0));
     expect_bytes("lent to what refuses", &byte, (uint8_t[]){0xAB}, 1);
 }
 
@@ -803,6 +819,205 @@ static void following_the_full_chart(void)
     expect_follow("such, restarted", &lent, RESTART, numbers(21, 8191, 0, 0), NULL);
 }
 
+/* The shortest way. */
+
+/* Where a way is written, each of its events is taken, and the end is in the set after the last one only. */
+static void expect_end_after(const char *name, const follower *lent, const uint8_t *way, uint64_t len)
+{
+    static follower run;
+    run = *lent;
+    for (uint64_t i = 0; i < len; i++) {
+        seq_numbers said = seq_event(run.chart.bytes, run.chart.len, run.state.bytes, SEQ_STATE, way[i]);
+        expect_numbers(name, said, taken(i + 1 == len, said.r));
+    }
+}
+
+/* One call into so many lent bytes; its answer and every lent byte are held to what is wanted. */
+static void expect_way(const char *name, const follower *lent, size_t out_len, seq_numbers want, const uint8_t *way)
+{
+    size_t chart_len = lent->chart.len;
+    size_t len = lent->state.len;
+    const uint8_t *chart = copy_before(file_end, lent->chart.bytes, chart_len);
+    const uint8_t *state = copy_before(labels_end, lent->state.bytes, len);
+    uint8_t *out = lend_out(out_len, want, way);
+    cases++;
+    expect_numbers(name, seq_shortest_way(chart, chart_len, state, len, out, out_len), want);
+    expect_bytes(name, chart, lent->chart.bytes, chart_len);
+    expect_bytes(name, state, lent->state.bytes, len);
+    expect_bytes(name, out, out_left, out_len);
+    if (want.n == 0)
+        expect_end_after(name, lent, out, want.p);
+}
+
+/* A way of so many events, into bytes enough and too few. */
+static void expect_way_in_each_buffer(const char *name, const follower *lent, const uint8_t *way, size_t len)
+{
+    seq_numbers written = numbers(0, len, 0, 0);
+    seq_numbers needed = numbers(54, len, 0, 0);
+    if (len > 0) {
+        expect_way(name, lent, 0, needed, way);
+        expect_way(name, lent, len - 1, needed, way);
+    }
+    expect_way(name, lent, len, written, way);
+    expect_way(name, lent, len + 1, written, way);
+    expect_way(name, lent, SEQ_LONGEST_WAY, written, way);
+}
+
+/* Refused, whether there is room or not. */
+static void expect_no_way(const char *name, const follower *lent, seq_numbers want)
+{
+    expect_way(name, lent, 0, want, NULL);
+    expect_way(name, lent, 1, want, NULL);
+    expect_way(name, lent, SEQ_LONGEST_WAY + 1, want, NULL);
+}
+
+/* The chart of G's expression: vertices 2 and 3 leave by action 2, vertex 1 goes to 3. */
+static void ways_of_g(void)
+{
+    static follower lent;
+    set_chart(&lent, G_CHART, sizeof G_CHART);
+    set_vertices(&lent, 0, 1);
+    expect_way_in_each_buffer("the end", &lent, NULL, 0);
+    set_vertices(&lent, 0, 4);
+    expect_way_in_each_buffer("the end and all others", &lent, NULL, 0);
+    set_vertices(&lent, 1, 2);
+    expect_way_in_each_buffer("vertex 1", &lent, (uint8_t[]){1, 2}, 2);
+    set_vertices(&lent, 3, 4);
+    expect_way_in_each_buffer("the start", &lent, (uint8_t[]){2}, 1);
+    set_vertices(&lent, 1, 4);
+    expect_way_in_each_buffer("all but the end", &lent, (uint8_t[]){2}, 1);
+}
+
+/* V 128, one line: each vertex leads to the one below it, vertex v by action 2 v. */
+static void ways_along_one_line(void)
+{
+    static follower lent;
+    uint8_t way[SEQ_LONGEST_WAY];
+    put_four(&lent.chart, 128, 127, 127, 0);
+    for (unsigned v = 1; v < 128; v++) {
+        put_four(&lent.chart, v, 2 * v, v - 1, 0);
+        way[SEQ_LONGEST_WAY - v] = (uint8_t)(2 * v);
+    }
+    for (unsigned v = 0; v < 128; v++) {
+        set_vertices(&lent, v, v + 1);
+        expect_way_in_each_buffer("one vertex of a line", &lent, way + SEQ_LONGEST_WAY - v, v);
+        set_vertices(&lent, v, 128);
+        expect_way_in_each_buffer("that and all above", &lent, way + SEQ_LONGEST_WAY - v, v);
+    }
+}
+
+/* From vertex 1 two events lead to the end by 2, by 3 and by 4; by action 1 it takes three. */
+static void ways_of_equal_length(void)
+{
+    static follower lent;
+    static const uint8_t chart[] = {7, 1, 11, 0, 1, 1, 5, 0, 1, 6, 2, 0, 1, 6, 3, 0, 1, 7, 4, 0,
+                                    2, 8, 0, 0, 2, 9, 0, 0, 3, 1, 5, 0, 3, 5, 0, 0, 4, 1, 0, 0,
+                                    5, 1, 4, 0, 6, 6, 1, 0};
+    set_chart(&lent, chart, sizeof chart);
+    set_vertices(&lent, 1, 2);
+    expect_way_in_each_buffer("the lowest first event, then the lowest of 2 and 3", &lent, (uint8_t[]){6, 5}, 2);
+    set_vertices(&lent, 2, 3);
+    expect_way_in_each_buffer("the lower of two", &lent, (uint8_t[]){8}, 1);
+    set_vertices(&lent, 2, 5);
+    expect_way_in_each_buffer("the lowest of three vertices", &lent, (uint8_t[]){1}, 1);
+    set_vertices(&lent, 5, 7);
+    expect_way_in_each_buffer("the nearer of two", &lent, (uint8_t[]){1, 1}, 2);
+    set_vertices(&lent, 6, 7);
+    expect_way_in_each_buffer("three events", &lent, (uint8_t[]){6, 6, 5}, 3);
+}
+
+/* Vertex 1 stays by the actions below one, and leaves by that and all above: for each of 1 to 255. */
+static void ways_by_every_action(void)
+{
+    static follower lent;
+    for (unsigned to_end = 1; to_end < 256; to_end++) {
+        uint8_t way = (uint8_t)to_end;
+        lent.chart.len = 0;
+        put_four(&lent.chart, 2, 1, 255, 0);
+        for (unsigned action = 1; action < 256; action++)
+            put_four(&lent.chart, 1, action, action < to_end, 0);
+        set_vertices(&lent, 1, 2);
+        expect_way("one action leads to the end", &lent, 1, numbers(0, 1, 0, 0), &way);
+    }
+}
+
+/* 55: vertex 2 deadlocks, 3 and 4 go round; it comes before 54. */
+static void no_way_to_the_end(void)
+{
+    static follower lent;
+    static const uint8_t chart[] = {5, 1, 5, 0, 1, 1, 2, 0, 1, 2, 0, 0, 1, 3, 3, 0, 3, 2, 4, 0, 4, 2, 3, 0};
+    seq_numbers none = numbers(55, 0, 0, 0);
+    set_chart(&lent, chart, sizeof chart);
+    set_vertices(&lent, 2, 3);
+    expect_no_way("a deadlock", &lent, none);
+    set_vertices(&lent, 3, 5);
+    expect_no_way("round for ever", &lent, none);
+    set_vertices(&lent, 2, 5);
+    expect_no_way("all of these", &lent, none);
+    set_vertices(&lent, 1, 5);
+    expect_way_in_each_buffer("these and the start", &lent, (uint8_t[]){2}, 1);
+    set_chart(&lent, (uint8_t[]){2, 1, 0, 0}, 4);
+    set_vertices(&lent, 1, 2);
+    expect_no_way("no transition", &lent, none);
+    set_vertices(&lent, 0, 2);
+    expect_way_in_each_buffer("no transition, and the end", &lent, NULL, 0);
+}
+
+/* 53 for each of its causes, and 20 and 21 before it; all of them before 54 and 55. */
+static void refused_ways(void)
+{
+    static follower lent;
+    static const size_t other_lens[] = {0, 1, 15, 17, 32};
+    set_chart(&lent, G + 20, 12);
+    set_vertices(&lent, 1, 2);
+    for (size_t k = 0; k < 5; k++) {
+        lent.state.len = other_lens[k];
+        expect_no_way("a state too long or too short", &lent, NO_SET);
+    }
+    set_vertices(&lent, 0, 0);
+    expect_no_way("the empty set", &lent, NO_SET);
+    for (unsigned v = 2; v < 128; v++) {
+        set_vertices(&lent, v, v + 1);
+        expect_no_way("a vertex of V or above", &lent, NO_SET);
+        lent.state.bytes[0] |= 3;
+        expect_no_way("such, and the end", &lent, NO_SET);
+    }
+    for (size_t k = 0; k < 4; k++) {
+        set_vertices(&lent, 0, (unsigned)k);
+        lent.state.len = k == 1 ? 15 : SEQ_STATE;
+        lent.chart.bytes[4 + 4 * 1 + 3] = 1;
+        expect_no_way("transition 1 with a last byte", &lent, numbers(21, 1, 0, 0));
+        lent.chart.bytes[0] = 129;
+        expect_no_way("V 129", &lent, numbers(20, 0, 0, 0));
+        set_body(&lent.chart, G + 20, 12);
+    }
+    for (lent.chart.len = 0; lent.chart.len < 12; lent.chart.len++)
+        expect_no_way("a beginning of the chart", &lent, numbers(20, 0, 0, 0));
+}
+
+/* V 128, T 8,192: no way, until transition 0 leads to the end, or the last one does. */
+static void ways_over_the_full_chart(void)
+{
+    static follower lent;
+    static body labels;
+    put_full_chart(&lent.chart, &labels);
+    set_vertices(&lent, 127, 128);
+    expect_no_way("the full chart", &lent, numbers(55, 0, 0, 0));
+    lent.chart.bytes[4 + 2] = 0;
+    expect_way_in_each_buffer("by vertex 1", &lent, (uint8_t[]){1, 1}, 2);
+    set_vertices(&lent, 1, 128);
+    expect_way_in_each_buffer("from vertex 1", &lent, (uint8_t[]){1}, 1);
+    lent.chart.bytes[4 + 2] = 1;
+    expect_no_way("from all but the end", &lent, numbers(55, 0, 0, 0));
+    lent.chart.bytes[4 + 4 * 8191 + 1] = 255;
+    lent.chart.bytes[4 + 4 * 8191 + 2] = 0;
+    expect_way_in_each_buffer("by the last transition", &lent, (uint8_t[]){255}, 1);
+    set_vertices(&lent, 2, 3);
+    expect_way_in_each_buffer("from 2 by 1 to the last vertex", &lent, (uint8_t[]){1, 1, 255}, 3);
+    lent.chart.bytes[4 + 4 * 8191 + 3] = 1;
+    expect_no_way("a last byte in the last transition", &lent, numbers(21, 8191, 0, 0));
+}
+
 int main(void)
 {
     file_end = end_of_memory(sizeof file_bytes);
@@ -831,6 +1046,13 @@ int main(void)
     every_event();
     refused_events();
     following_the_full_chart();
+    ways_of_g();
+    ways_along_one_line();
+    ways_of_equal_length();
+    ways_by_every_action();
+    no_way_to_the_end();
+    refused_ways();
+    ways_over_the_full_chart();
     printf("C: %u cases, %u wrong\n", cases, wrong);
     return wrong == 0 ? 0 : 1;
 }

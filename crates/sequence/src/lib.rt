@@ -2,15 +2,17 @@
 // anything, since nothing checks a C caller.
 ghost use mathlib.Core.Path.{_≡_};
 ghost use lib.ListN.{length};
-ghost use Rattle.report.specs.Numbers.{verdictNumbers, writtenNumbers, removedNumbers, followedNumbers};
+ghost use Rattle.report.specs.Numbers.{verdictNumbers, writtenNumbers, removedNumbers, followedNumbers, wayNumbers};
 ghost use Rattle.verdict.specs.Verdicts.{verdictOf};
 ghost use Rattle.expression.specs.Body.{writtenOf, bufferOf};
 ghost use Rattle.elimination.specs.Removals.{removalOf, leftOf};
 ghost use Rattle.follower.specs.States.{eventLent, restartLent};
+ghost use Rattle.follower.specs.Ways.{wayOf, wayLeft};
 use report::Numbers;
 use report::followed_numbers;
 use report::removed_numbers;
 use report::verdict_numbers;
+use report::way_numbers;
 use report::written_numbers;
 
 // The verdict on a yard file: 0 with V, T and the number of loops, or the refusal.
@@ -66,4 +68,14 @@ pub extern "C" fn seq_event(chart: &[u8], state: &mut [u8], action: u8) -> Numbe
         × (now (state .exit) ≡ eventLent (now (chart .entry)) (now (state .entry)) action .follower .set) ⌝ }
 {
     followed_numbers(follower::event_lent(chart, state, action))
+}
+
+// Writes the shortest list of events after which the end is in the set into the lent bytes, those past
+// it being kept: 0 with its length, or the refusal, which changes none of them.
+#[no_mangle]
+pub extern "C" fn seq_shortest_way(chart: &[u8], state: &[u8], out: &mut [u8]) -> Numbers
+    ensures { λ r. ⌜ (r ≡ wayNumbers (wayOf (now (chart .entry)) (now (state .entry)) (length (now (out .entry)))))
+        × (now (out .exit) ≡ wayLeft (now (chart .entry)) (now (state .entry)) (now (out .entry))) ⌝ }
+{
+    way_numbers(follower::shortest_way(chart, state, out))
 }
