@@ -54,17 +54,23 @@ pub(crate) fn write_verdict(text: &mut [u8], numbers: Numbers) -> usize
     append_value(text, at, numbers.r)
 }
 
-// A word for what was done, with its length where it has one.
-pub(crate) fn write_done(text: &mut [u8], word: &[u8], numbers: Numbers) -> usize
+pub(crate) fn write_done(text: &mut [u8], numbers: Numbers) -> usize
+    ensures { λ r. ⌜ Counts r (now (text .exit)) ⌝ }
+{
+    if numbers.n > 0 {
+        return write_verdict(text, numbers);
+    }
+    append(text, 0, b" done")
+}
+
+// A word for what was written, and its length.
+pub(crate) fn write_length(text: &mut [u8], word: &[u8], numbers: Numbers) -> usize
     ensures { λ r. ⌜ Counts r (now (text .exit)) ⌝ }
 {
     if numbers.n > 0 {
         return write_verdict(text, numbers);
     }
     let at = append(text, 0, word);
-    if numbers.p == 0 {
-        return at;
-    }
     append_value(text, at, numbers.p)
 }
 
@@ -109,15 +115,25 @@ fn append_byte(text: &mut [u8], at: usize, byte: u8) -> usize
     append(text, at, &digits)
 }
 
-pub(crate) fn write_bytes(text: &mut [u8], bytes: &[u8]) -> usize
+pub(crate) fn append_bytes(text: &mut [u8], at: usize, bytes: &[u8]) -> usize
+    requires { ⌜ Counts at (now text) ⌝ }
     ensures { λ r. ⌜ Counts r (now (text .exit)) ⌝ }
 {
     if bytes.len() == 0 {
-        return append(text, 0, b" nothing");
+        return append(text, at, b" nothing");
     }
-    let mut at: usize = 0;
+    let mut end = at;
     for i in 0..bytes.len() {
-        at = append_byte(text, at, bytes[i]);
+        end = append_byte(text, end, bytes[i]);
     }
-    at
+    end
+}
+
+// The length of a shortest way, and the bytes that were lent for it.
+pub(crate) fn write_way(text: &mut [u8], numbers: Numbers, lent: &[u8]) -> usize
+    ensures { λ r. ⌜ Counts r (now (text .exit)) ⌝ }
+{
+    let at = write_length(text, b" length", numbers);
+    let at = append(text, at, b", left");
+    append_bytes(text, at, lent)
 }

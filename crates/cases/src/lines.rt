@@ -21,7 +21,7 @@ use crate::words::place;
 pub(crate) fn word_of(line: &[u8]) -> usize {
     place(
         b"nodes chart labels relation file more repeat at row cut keep case standing state #  \
-        check leaving take left write restart event by ",
+        check leaving take left write way restart event by ",
         part(line, 0, find(line, 0, b' ')),
     )
 }
@@ -52,9 +52,11 @@ pub(crate) const LEFT: usize = 19;
 
 pub(crate) const WRITE: usize = 20;
 
-pub(crate) const RESTART: usize = 21;
+pub(crate) const WAY: usize = 21;
 
-pub(crate) const BY: usize = 23;
+pub(crate) const RESTART: usize = 22;
+
+pub(crate) const BY: usize = 24;
 
 // The offset at which a line's bytes begin: a record's name replaces all that there is.
 fn offset(word: usize, size: usize, n: usize) -> usize

@@ -11,11 +11,13 @@ ghost use mathlib.Core.Path.{_≡_};
 ghost use lib.ListN.{length};
 ghost use Rattle.io.specs.Counts.{Counts};
 use answers::append;
+use answers::append_bytes;
 use answers::at_most;
-use answers::write_bytes;
 use answers::write_done;
 use answers::write_followed;
+use answers::write_length;
 use answers::write_verdict;
+use answers::write_way;
 use follower::Follower;
 use follower::Moved;
 use libc::STDIN_FILENO;
@@ -29,6 +31,7 @@ use lines::RESTART;
 use lines::STANDING;
 use lines::STATE;
 use lines::TAKE;
+use lines::WAY;
 use lines::WRITE;
 use lines::prepare;
 use lines::word_of;
@@ -161,10 +164,27 @@ fn written(bytes: &mut [u8], room: &mut [u8], line: &[u8]) -> Numbers {
     if numbers.n == 0 {
         let mut text = io::buffer();
         let length = at_most(room, numbers.p as usize);
-        let end = write_bytes(&mut text, &room[..length]);
+        let end = append_bytes(&mut text, 0, &room[..length]);
         prepare(bytes, CHART, CHART, &text[..end]);
     }
     numbers
+}
+
+// The shortest way from a state into some bytes: the answer, and what they become.
+fn way_into(out: &mut [u8], chart: &[u8], state: &[u8], text: &mut [u8]) -> usize
+    ensures { λ r. ⌜ Counts r (now (text .exit)) ⌝ }
+{
+    let numbers = report::way_numbers(follower::shortest_way(chart, state, out));
+    write_way(text, numbers, out)
+}
+
+// The same, into as many bytes as a line says, each of them EE.
+fn way(chart: &[u8], state: &[u8], line: &[u8], text: &mut [u8]) -> usize
+    ensures { λ r. ⌜ Counts r (now (text .exit)) ⌝ }
+{
+    let mut room = [0xEEu8; 160];
+    let lent = at_most(&room, number(after(line, 1)));
+    way_into(&mut room[..lent], chart, state, text)
 }
 
 // The answer to a call, as text.
@@ -176,17 +196,20 @@ fn answer(bytes: &mut [u8], lent: &mut [u8], word: usize, line: &[u8], text: &mu
     }
     if word == LEAVING {
         let vertex = number(after(line, 1));
-        return write_bytes(text, chart::leaving(body(bytes, CHART), vertex));
+        return append_bytes(text, 0, chart::leaving(body(bytes, CHART), vertex));
     }
     if word == TAKE {
-        return write_done(text, b" done", taken(bytes, line, lent));
+        return write_done(text, taken(bytes, line, lent));
     }
     if word == LEFT {
-        return write_bytes(text, lent);
+        return append_bytes(text, 0, lent);
     }
     if word == WRITE {
         let numbers = written(bytes, text, line);
-        return write_done(text, b" written", numbers);
+        return write_length(text, b" written", numbers);
+    }
+    if word == WAY {
+        return way(body(bytes, CHART), lent, line, text);
     }
     if word <= BY {
         return write_followed(text, followed(body(bytes, CHART), lent, word, line));

@@ -1,17 +1,17 @@
--- `cases::answers::write_bytes` meets its contract: a count to the number of bytes.
+-- `cases::answers::append_bytes` meets its contract: a count to the number of bytes.
 use Prim.Native.Nat.{_-_}
 use mathlib.Core.Path.{_≡_}
 use lib.ListN.{length}
 use borrow.Author.Needs.{needs}
 use Rattle.io.specs.Counts.{Counts}
-use Rattle.cases.proofs.answers.write_bytes.Statement.{statement}
-use Rattle.cases.proofs.answers.write_bytes.Tie as tie
+use Rattle.cases.proofs.answers.append_bytes.Statement.{statement}
+use Rattle.cases.proofs.answers.append_bytes.Tie as tie
 
 abbrev Inv-loop : tie.InvT-loop
-Inv-loop text₀ bytes at₀ i₀ i-end text at i = Counts at text × (length text ≡ length text₀) × (i-end ≡ length bytes)
+Inv-loop text₀ at bytes end₀ i₀ i-end text end i = Counts end text × (length text ≡ length text₀) × (i-end ≡ length bytes)
 
 abbrev μ-loop : tie.MeasureT-loop
-μ-loop text₀ bytes at₀ i₀ i-end text at i = length bytes - i
+μ-loop text₀ at bytes end₀ i₀ i-end text end i = length bytes - i
 
 slice-aggregate-append : tie.Need-slice-aggregate-append Inv-loop μ-loop
 slice-aggregate-append c = search needs
@@ -49,8 +49,8 @@ same-length-2 c = search needs
 returns-2 : tie.Need-returns-2 Inv-loop μ-loop
 returns-2 c = search needs
 
-pub write-bytes-spec : {M : Type 1} → statement M
-write-bytes-spec =
+pub append-bytes-spec : {M : Type 1} → statement M
+append-bytes-spec =
     tie.close
     (tie.spec
     Inv-loop
