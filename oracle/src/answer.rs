@@ -8,7 +8,8 @@ use std::fmt;
 /// * expression's chart: its length in bytes, 0, 0;
 /// * removal ("done"): 0, 0, 0;
 /// * follower: the word (`TAKEN` or `NOT_POSSIBLE`), 1 where the end is in the
-///   set, the number of different actions offered.
+///   set, the number of different actions offered;
+/// * shortest way: the number of its events, 0, 0.
 #[derive(Clone, Copy, PartialEq, Eq, PartialOrd, Ord, Hash, Debug)]
 #[repr(C)]
 pub struct Answer {

@@ -2,6 +2,10 @@
 //! expression's first steps are `u64`, transitions are read where they lie.
 //!
 //! Nothing here is shared with `plain` but the answer's form.
+mod way;
+
+pub use way::shortest_way;
+
 use crate::{Answer, NOT_POSSIBLE, TAKEN};
 
 type Refusal = Answer;

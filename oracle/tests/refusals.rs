@@ -89,14 +89,44 @@ fn change(file: &mut Vec<u8>, change: &str) {
     }
 }
 
-/// The chart of the weighbridge's expression, in so many lent bytes, and what the call answers.
-fn written(lent: usize) -> (Answer, Vec<u8>) {
+/// Both checkers' one answer to a call that is lent so many bytes, and what it leaves there.
+fn lent(
+    length: usize,
+    ours: impl Fn(&mut [u8]) -> Answer,
+    theirs: impl Fn(&mut [u8]) -> Answer,
+) -> (Answer, Vec<u8>) {
+    let [mut left, mut other] = [(); 2].map(|()| vec![0xEE; length]);
+    let answer = ours(&mut left);
+    assert_eq!(theirs(&mut other), answer);
+    assert_eq!(other, left);
+    (answer, left)
+}
+
+/// The chart of the weighbridge's expression, in so many lent bytes.
+fn written(length: usize) -> (Answer, Vec<u8>) {
     let file = of_the_repository(FILE);
-    let [mut ours, mut theirs] = [(); 2].map(|()| vec![0xEE; lent]);
-    let answer = proved::write_chart(first_body(&file), &mut ours);
-    assert_eq!(plain::write_chart(first_body(&file), &mut theirs), answer);
-    assert_eq!(theirs, ours);
-    (answer, ours)
+    let nodes = first_body(&file);
+    lent(
+        length,
+        |out| proved::write_chart(nodes, out),
+        |out| plain::write_chart(nodes, out),
+    )
+}
+
+/// The shortest way from a state over the file's chart, in so many lent bytes.
+fn way(file: &[u8], state: &[u8], length: usize) -> (Answer, Vec<u8>) {
+    let chart = yard(file).chart;
+    lent(
+        length,
+        |out| proved::shortest_way(&chart, state, out),
+        |out| plain::shortest_way(&chart, state, out),
+    )
+}
+
+/// The answer of a call that has written nothing.
+fn kept((answer, left): (Answer, Vec<u8>)) -> Answer {
+    assert!(left.iter().all(|byte| *byte == 0xEE));
+    answer
 }
 
 fn yard(file: &[u8]) -> Yard {
@@ -144,11 +174,8 @@ fn answered(lines: &[String]) -> String {
             }
             None if line == "restart" => last = Some(followed(&file, Call::Restart, &mut state)),
             Some(("state", rest)) => change(&mut state, rest),
-            Some(("lend", lent)) => {
-                let (answer, out) = written(decimal(lent));
-                assert!(out.iter().all(|byte| *byte == 0xEE));
-                last = Some(answer);
-            }
+            Some(("lend", lent)) => last = Some(kept(written(decimal(lent)))),
+            Some(("way", lent)) => last = Some(kept(way(&file, &state, decimal(lent)))),
             _ => change(&mut file, line),
         }
     }
@@ -183,7 +210,7 @@ fn each_number_has_an_example() {
     numbers.dedup();
     assert_eq!(
         numbers,
-        [&CHECK_REFUSALS[..], &[50, 51, 52, 53, 54]].concat()
+        [&CHECK_REFUSALS[..], &[50, 51, 52, 53, 54, 55]].concat()
     );
 }
 
@@ -196,6 +223,11 @@ fn each_cause_of_50_and_52_has_an_example() {
     let mut broken: Vec<char> = ends.collect();
     broken.sort();
     assert_eq!(broken, ['1', '2', '3']);
+}
+
+fn last_is(example: &Example, call: &str) -> bool {
+    let last = example.changes.last();
+    last.is_some_and(|line| line.starts_with(call))
 }
 
 /// 53 for an empty set, for a vertex, and for the number of bytes at an event and at a restart.
@@ -212,8 +244,18 @@ fn each_cause_of_53_has_an_example() {
     assert!(examples_of(53).any(|e| !changed(&e, "")));
     assert!(examples_of(53).any(|e| changed(&e, "byte")));
     for call in ["event", "restart"] {
-        let last = |e: &Example| e.changes.last().is_some_and(|line| line.starts_with(call));
-        assert!(examples_of(53).any(|e| long(&e) && last(&e)), "{call}");
+        assert!(
+            examples_of(53).any(|e| long(&e) && last_is(&e, call)),
+            "{call}"
+        );
+    }
+}
+
+/// 54 for each call that writes to lent bytes.
+#[test]
+fn each_call_that_writes_has_an_example_of_54() {
+    for call in ["lend", "way"] {
+        assert!(examples_of(54).any(|e| last_is(&e, call)), "{call}");
     }
 }
 

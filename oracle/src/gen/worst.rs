@@ -1,5 +1,6 @@
-//! Files at the limits, each hard on one stage of the check, and removals and
-//! calls of the follower at the limits. All files are accepted.
+//! Files at the limits, each hard on one stage of the check, and removals,
+//! calls of the follower and ways to the end at the limits. All files are
+//! accepted.
 use super::charts::chart_of;
 use super::expressions::{self, Shape};
 use super::lists::Call;
@@ -440,6 +441,77 @@ pub fn follower_calls() -> Vec<(&'static str, FollowerCall)> {
     .map(|(name, chart, set, call)| {
         let (chart, state) = (chart.clone(), set.to_le_bytes());
         (name, FollowerCall { chart, state, call })
+    })
+    .to_vec()
+}
+
+/// A state whose shortest way to the end is asked for.
+#[derive(Clone, Debug)]
+pub struct WayCall {
+    pub chart: Vec<u8>,
+    pub state: [u8; 16],
+}
+
+/// From each of 127 vertices one step leads to the next lower one, by its own
+/// action.
+fn line() -> Vec<u8> {
+    let steps = (1..=127).map(|v| step(v, v as u8, v - 1));
+    chart_of(128, 127, steps.collect()).bytes()
+}
+
+/// That line, where each vertex first goes round by itself by 63 lower actions
+/// or 64.
+fn line_with_rounds() -> Vec<u8> {
+    let mut steps = Vec::new();
+    for v in 1..=127 {
+        let rounds = if v <= 64 { 64 } else { 63 };
+        steps.extend((1..=rounds).map(|action| step(v, action, v)));
+        steps.push(step(v, rounds + 1, v - 1));
+    }
+    chart_of(128, 127, steps).bytes()
+}
+
+/// Layers of 16 vertices, each with four actions to every vertex of the next
+/// layer; those of the lowest lead to each other so, and to the end by higher
+/// actions.
+fn layers_of_16() -> Vec<u8> {
+    let mut steps = Vec::new();
+    for v in 1..=127 {
+        let layer = (v - 1) / 16;
+        let next = 16 * layer.max(1) - 15;
+        for action in 1..=4 {
+            steps.extend((next..next + 16).map(|to| step(v, action, to)));
+            if layer == 0 {
+                steps.push(step(v, action + 4, 0));
+            }
+        }
+    }
+    chart_of(128, 127, steps).bytes()
+}
+
+/// The weighbridge of the examples.
+fn weighbridge() -> Vec<u8> {
+    let lorry = [step(1, 1, 2), step(1, 2, 2), step(1, 7, 0)];
+    let weighed = [step(2, 3, 2), step(2, 4, 3), step(3, 5, 4), step(4, 6, 1)];
+    chart_of(5, 1, [&lorry[..], &weighed].concat()).bytes()
+}
+
+/// Ways to the end over charts of 128 vertices and over a small one, each with
+/// its name. All but the line and the small one have 8,192 transitions. The
+/// dense chart is that of the follower's calls, and has no way to the end.
+pub fn way_calls() -> Vec<(&'static str, WayCall)> {
+    let top_layer = u128::MAX << 113;
+    [
+        ("longest", line(), 1 << 127),
+        ("longest of many", line_with_rounds(), 1 << 127),
+        ("nearest of many", line_with_rounds(), 1 << 1),
+        ("wide layers", layers_of_16(), top_layer),
+        ("small", weighbridge(), 1 << 2),
+        ("refused 55", dense(step(127, 3, 1), 0).chart, 1 << 127),
+    ]
+    .map(|(name, chart, set)| {
+        let state = set.to_le_bytes();
+        (name, WayCall { chart, state })
     })
     .to_vec()
 }

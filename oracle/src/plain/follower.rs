@@ -31,22 +31,33 @@ pub fn event(chart: &[u8], state: State, event: u8) -> (Answer, State) {
 
 fn followed(chart: &[u8], state: State, event: u8) -> Result<(Answer, State), Answer> {
     let chart = Chart::read(chart)?;
+    let set = members(&chart, state)?;
+    let targets = targets(&chart, &set, event);
+    if targets.is_empty() {
+        return Ok((said(&chart, &set, NOT_POSSIBLE), state));
+    }
+    Ok((said(&chart, &targets, TAKEN), state_of(&targets)))
+}
+
+/// The vertices of a state; refused 53 where there is none, or one of V or
+/// above.
+pub(super) fn members(chart: &Chart, state: State) -> Result<BTreeSet<usize>, Answer> {
     let set: BTreeSet<usize> = (0..128)
         .filter(|v| state[v / 8] & (1 << (v % 8)) != 0)
         .collect();
     if set.is_empty() || set.iter().any(|v| *v >= chart.vertices) {
         return Err(Answer::new(53, 0, 0, 0));
     }
-    let targets: BTreeSet<usize> = chart
-        .transitions
-        .iter()
-        .filter(|t| set.contains(&t.from) && t.action == event)
+    Ok(set)
+}
+
+/// All targets of an event from some member; none where it isn't possible.
+pub(super) fn targets(chart: &Chart, set: &BTreeSet<usize>, event: u8) -> BTreeSet<usize> {
+    let transitions = chart.transitions.iter();
+    transitions
+        .filter(|t| t.action == event && set.contains(&t.from))
         .map(|t| t.to)
-        .collect();
-    if targets.is_empty() {
-        return Ok((said(&chart, &set, NOT_POSSIBLE), state));
-    }
-    Ok((said(&chart, &targets, TAKEN), state_of(&targets)))
+        .collect()
 }
 
 fn said(chart: &Chart, set: &BTreeSet<usize>, word: u64) -> Answer {

@@ -1,6 +1,6 @@
 //! What the tests share.
 #![allow(dead_code)]
-use oracle::gen::Yard;
+use oracle::gen::{Rng, Yard};
 use oracle::plain::{Chart, Transition};
 use oracle::{fast, gen, plain, Answer};
 use std::thread;
@@ -66,6 +66,45 @@ pub fn two_loops() -> Chart {
 /// The chart of an accepted file.
 pub fn chart_of(yard: &Yard) -> Chart {
     Chart::read(&yard.chart).expect("an accepted file's chart")
+}
+
+/// A chart body cut off, or with another byte.
+pub fn damage_chart(rng: &mut Rng, chart: &mut Vec<u8>) {
+    let at = rng.below(chart.len());
+    match rng.below(3) {
+        0 => chart.truncate(at),
+        1 => chart[0] = rng.word() as u8,
+        _ => chart[at] = rng.word() as u8,
+    }
+}
+
+/// Vertex 1 alone, as far as so many bytes go.
+pub fn long_state(length: usize) -> Vec<u8> {
+    let mut state = vec![0; length];
+    state.iter_mut().take(1).for_each(|byte| *byte = 2);
+    state
+}
+
+/// Vertices below a chart's V, mostly, and now and then all of them, none, or
+/// bytes as they come; or another length.
+pub fn some_state(rng: &mut Rng, chart: &[u8]) -> Vec<u8> {
+    let vertices: usize = chart.first().copied().unwrap_or(0).max(2).into();
+    let mut state = vec![0; 16];
+    match rng.below(20) {
+        0 => {}
+        1 => return long_state(rng.pick(&[0, 1, 15, 17, 32])),
+        2 => state.fill_with(|| rng.word() as u8),
+        3 => (0..vertices.min(128)).for_each(|v| state[v / 8] |= 1 << (v % 8)),
+        _ => {
+            for _ in 0..rng.between(1, 4) {
+                // Seldom V itself.
+                let count = vertices + rng.percent(5) as usize;
+                let v = rng.below(count).min(127);
+                state[v / 8] |= 1 << (v % 8);
+            }
+        }
+    }
+    state
 }
 
 /// What the first record holds, as far as the file goes.

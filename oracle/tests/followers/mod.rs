@@ -1,7 +1,7 @@
 //! Some follower held against the plain one, on lent states, and lists of calls
 //! over accepted files against the published rules' follower.
 #![allow(dead_code)]
-use crate::common::{chart, files, g};
+use crate::common::{chart, damage_chart, files, g, long_state, some_state};
 use oracle::gen::lists::{events, Call};
 use oracle::gen::{self, Rng};
 use oracle::plain::{read_nodes, RulesFollower};
@@ -203,34 +203,6 @@ pub fn another_action_is_found_out(follower: Follower, first: u64) {
     assert!(differing > files(100), "{differing}");
 }
 
-/// Vertex 1 alone, as far as so many bytes go.
-fn long_state(length: usize) -> Vec<u8> {
-    let mut state = vec![0; length];
-    state.iter_mut().take(1).for_each(|byte| *byte = 2);
-    state
-}
-
-/// Vertices below V, mostly, and now and then all of them, none, or bytes as
-/// they come; or another length.
-fn some_state(rng: &mut Rng, vertices: usize) -> Vec<u8> {
-    let mut state = vec![0; 16];
-    match rng.below(20) {
-        0 => {}
-        1 => return long_state(rng.pick(&[0, 1, 15, 17, 32])),
-        2 => state.fill_with(|| rng.word() as u8),
-        3 => (0..vertices.min(128)).for_each(|v| state[v / 8] |= 1 << (v % 8)),
-        _ => {
-            for _ in 0..rng.between(1, 4) {
-                // Seldom V itself.
-                let count = vertices + rng.percent(5) as usize;
-                let v = rng.below(count).min(127);
-                state[v / 8] |= 1 << (v % 8);
-            }
-        }
-    }
-    state
-}
-
 /// Damaged charts and any states, with a few calls on each.
 pub fn any_bytes(follower: Follower, first: u64) {
     let mut trial = Trial::of(follower);
@@ -243,15 +215,9 @@ pub fn any_bytes(follower: Follower, first: u64) {
         let mut actions: Vec<u8> = chart[4..].chunks(4).map(|t| t[1]).collect();
         actions.extend([0, rng.word() as u8]);
         if rng.percent(25) {
-            let at = rng.below(chart.len());
-            match rng.below(3) {
-                0 => chart.truncate(at),
-                1 => chart[0] = rng.word() as u8,
-                _ => chart[at] = rng.word() as u8,
-            }
+            damage_chart(&mut rng, &mut chart);
         }
-        let vertices = chart.first().copied().unwrap_or(0).max(2).into();
-        let mut state = some_state(&mut rng, vertices);
+        let mut state = some_state(&mut rng, &chart);
         for _ in 0..4 {
             let call = Call::Event(rng.pick(&actions));
             trial.call(call, &chart, &mut state, &seed);

@@ -25,6 +25,14 @@ extern "C" {
         state_len: usize,
         action: u8,
     ) -> Answer;
+    fn seq_shortest_way(
+        chart: *const u8,
+        chart_len: usize,
+        state: *const u8,
+        state_len: usize,
+        out: *mut u8,
+        out_len: usize,
+    ) -> Answer;
 }
 
 #[cfg(library)]
@@ -76,6 +84,21 @@ pub fn event(chart: &[u8], state: &mut [u8], action: u8) -> Answer {
     }
 }
 
+#[cfg(library)]
+pub fn shortest_way(chart: &[u8], state: &[u8], out: &mut [u8]) -> Answer {
+    // SAFETY: as above; it writes to no bytes but those of `out`.
+    unsafe {
+        seq_shortest_way(
+            chart.as_ptr(),
+            chart.len(),
+            state.as_ptr(),
+            state.len(),
+            out.as_mut_ptr(),
+            out.len(),
+        )
+    }
+}
+
 #[cfg(not(library))]
 pub fn check(_: &[u8]) -> Answer {
     panic!("{MISSING}")
@@ -98,6 +121,11 @@ pub fn restart(_: &[u8], _: &mut [u8]) -> Answer {
 
 #[cfg(not(library))]
 pub fn event(_: &[u8], _: &mut [u8], _: u8) -> Answer {
+    panic!("{MISSING}")
+}
+
+#[cfg(not(library))]
+pub fn shortest_way(_: &[u8], _: &[u8], _: &mut [u8]) -> Answer {
     panic!("{MISSING}")
 }
 
