@@ -1,12 +1,12 @@
-/* stack check FILE.., stack removal FILE.. or stack follower FILE..: how many bytes of stack the call uses. The call on
- * each file named is made on a thread of 128 KiB whose stack was filled with a pattern. */
+/* stack check FILE.., stack removal FILE.., stack follower FILE.. or stack way FILE..: how many bytes of stack the call
+ * uses. The call on each file named is made on a thread of 128 KiB whose stack was filled with a pattern. */
 #include "sequence.h"
 #include <pthread.h>
 #include <stdio.h>
 #include <stdlib.h>
 #include <string.h>
 
-enum { ROOM = 128 * 1024, LONGEST = 65536, PATTERN = 0xA5 };
+enum { ROOM = 128 * 1024, LONGEST = 65536, PATTERN = 0xA5, LONGEST_WAY = 127 };
 
 static unsigned char file[LONGEST];
 static size_t length;
@@ -37,9 +37,18 @@ static void *follower(void *nothing) {
     return nothing;
 }
 
+/* The file has the state, the bytes that are lent, then the chart. */
+static void *way(void *nothing) {
+    unsigned char *out = file + SEQ_STATE;
+    unsigned char *chart = out + LONGEST_WAY;
+    size_t chart_length = length - SEQ_STATE - LONGEST_WAY;
+    seq_shortest_way(chart, chart_length, file, SEQ_STATE, out, LONGEST_WAY);
+    return nothing;
+}
+
 int main(int count, char **names) {
     if (count < 3) {
-        fprintf(stderr, "stack check|removal|follower FILE..\n");
+        fprintf(stderr, "stack check|removal|follower|way FILE..\n");
         return 2;
     }
     void *(*call)(void *) = check;
@@ -47,6 +56,8 @@ int main(int count, char **names) {
         call = removal;
     else if (strcmp(names[1], "follower") == 0)
         call = follower;
+    else if (strcmp(names[1], "way") == 0)
+        call = way;
     size_t most = 0;
     for (int i = 2; i < count; i++) {
         FILE *in = fopen(names[i], "rb");

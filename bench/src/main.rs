@@ -1,14 +1,15 @@
-//! The proved check, removal and follower against the second checker's fast ones, on the same bytes in the same run.
+//! The proved check, removal, follower and shortest way against the second checker's fast ones, on
+//! the same bytes in the same run.
 //!
 //! * `bench times` prints a row for each kind of file: microseconds a check of both, and their ratio
 //!   over several runs; `bench removals` such a row for each removal, `bench follower` for each call
-//!   of the follower.
+//!   of the follower, `bench way` for each shortest way.
 //! * `bench stages` prints such a row for the files of the mixed corpus that have the same number in
 //!   their answer.
 //! * `bench calls WHO FILE COUNT` makes the call of a file COUNT times, for callgrind to count.
-//! * `bench write FOLDER` writes the named files, removals and calls of the follower.
+//! * `bench write FOLDER` writes the named files, removals, calls of the follower and shortest ways.
 use oracle::gen::lists;
-use oracle::gen::worst::{self, FollowerCall, Removal};
+use oracle::gen::worst::{self, FollowerCall, Removal, WayCall};
 use oracle::gen::{self, Yard};
 use oracle::{fast, Answer};
 use std::collections::BTreeMap;
@@ -32,7 +33,15 @@ enum Call {
         /// The bytes that are lent.
         state: [u8; 16],
     },
+    Way {
+        made: WayCall,
+        /// The bytes that are lent.
+        out: [u8; LONGEST_WAY],
+    },
 }
+
+/// No list of events is longer.
+const LONGEST_WAY: usize = 127;
 
 impl Call {
     fn remove(removal: Removal) -> Call {
@@ -46,9 +55,14 @@ impl Call {
         Call::Follow { made, state }
     }
 
+    fn way(made: WayCall) -> Call {
+        let out = [0; LONGEST_WAY];
+        Call::Way { made, out }
+    }
+
     /// The bytes of a file; those of a removal are its vertex, its level, and its chart, labels and
     /// standing bytes; those of a call of the follower are 1 for an event or 0, its action, the state
-    /// and the chart.
+    /// and the chart; those of a shortest way are the state, the lent bytes and the chart.
     fn bytes(&self) -> Vec<u8> {
         match self {
             Call::Check(file) => file.clone(),
@@ -69,6 +83,7 @@ impl Call {
                 };
                 [&call[..], state, &made.chart].concat()
             }
+            Call::Way { made, out } => [&made.state[..], out, &made.chart].concat(),
         }
     }
 
@@ -77,6 +92,7 @@ impl Call {
         match path.rsplit('.').next() {
             Some("removal") => Call::read_removal(&file),
             Some("follower") => Call::read_follow(&file),
+            Some("way") => Call::read_way(&file),
             _ => Call::Check(file),
         }
     }
@@ -90,6 +106,14 @@ impl Call {
                 0 => lists::Call::Restart,
                 _ => lists::Call::Event(file[1]),
             },
+        })
+    }
+
+    fn read_way(file: &[u8]) -> Call {
+        let (state, rest) = file.split_at(16);
+        Call::way(WayCall {
+            chart: rest[LONGEST_WAY..].to_vec(),
+            state: state.try_into().expect("16 bytes"),
         })
     }
 
@@ -114,6 +138,7 @@ struct Side {
     remove: fn(&[u8], &[u8], u64, u64, &mut [u8]) -> Answer,
     restart: fn(&[u8], &mut [u8]) -> Answer,
     event: fn(&[u8], &mut [u8], u8) -> Answer,
+    shortest_way: fn(&[u8], &[u8], &mut [u8]) -> Answer,
 }
 
 const PROVED: Side = Side {
@@ -121,17 +146,19 @@ const PROVED: Side = Side {
     remove: proved::remove,
     restart: proved::restart,
     event: proved::event,
+    shortest_way: proved::shortest_way,
 };
 const RUST: Side = Side {
     check: fast::check,
     remove: fast::remove,
     restart: fast::restart_lent,
     event: fast::event_lent,
+    shortest_way: fast::shortest_way,
 };
 
 impl Side {
     /// Before a removal its entries are set to 1 again, before a call of the follower its state is
-    /// what it was.
+    /// what it was, before a shortest way the lent bytes are 0.
     fn answer(self, call: &mut Call) -> Answer {
         match call {
             Call::Check(file) => (self.check)(file),
@@ -149,6 +176,10 @@ impl Side {
                     lists::Call::Restart => (self.restart)(&made.chart, state),
                     lists::Call::Event(action) => (self.event)(&made.chart, state, action),
                 }
+            }
+            Call::Way { made, out } => {
+                *out = [0; LONGEST_WAY];
+                (self.shortest_way)(&made.chart, &made.state, out)
             }
         }
     }
@@ -222,6 +253,10 @@ fn removals() -> Vec<(String, Call)> {
 
 fn follower_calls() -> Vec<(String, Call)> {
     calls_of(worst::follower_calls(), Call::follow)
+}
+
+fn ways() -> Vec<(String, Call)> {
+    calls_of(worst::way_calls(), Call::way)
 }
 
 fn calls_of<T>(named: Vec<(&str, T)>, call: fn(T) -> Call) -> Vec<(String, Call)> {
@@ -331,6 +366,7 @@ fn write(folder: &str) {
         ("yard", named()),
         ("removal", removals()),
         ("follower", follower_calls()),
+        ("way", ways()),
     ] {
         for (name, call) in calls {
             let path = format!("{folder}/{name}.{extension}");
@@ -352,12 +388,16 @@ fn main() {
             head("calls");
             rows(follower_calls());
         }
+        ["way"] => {
+            head("ways");
+            rows(ways());
+        }
         ["stages"] => stages(),
         ["calls", who, path, count] => calls(who, path, count.parse().expect("a number")),
         ["write", folder] => write(folder),
         _ => {
             eprintln!(
-                "bench times | removals | follower | stages | calls WHO FILE COUNT | write FOLDER"
+                "bench times | removals | follower | way | stages | calls WHO FILE COUNT | write FOLDER"
             );
             process::exit(2);
         }
