@@ -1,6 +1,6 @@
 -- 20 and 21 are all that the check of a chart body refuses.
-use mathlib.Core.Path.{_≡_}
-use mathlib.Core.Logic.{_⊎_, inl, inr}
+use mathlib.Core.Path.{_≡_, sym, subst}
+use mathlib.Core.Logic.{_⊎_, inl, inr, ⊎-elim}
 use mathlib.Core.Bool.{Bool, true, false, cond}
 use mathlib.Core.List.{List}
 use Prim.Native.Nat.{ℕ, zero, suc}
@@ -8,8 +8,10 @@ use native.Mathlib.Omega.{arith}
 use Rattle.report.specs.declared.Place.{Place}
 use Rattle.report.specs.declared.Place.the-variants.{ChartHeader, Transition}
 use Rattle.report.specs.declared.Stage.the-variants.{Refused}
-use Rattle.chart.specs.Bodies.{countOf}
+use Rattle.theory.specs.Least.{Least}
+use Rattle.chart.specs.Bodies.{countOf, HeaderFits, Faulty}
 use Rattle.chart.specs.Checks.{headerOk, okAt, firstBad, checkOf}
+use Rattle.chart.proofs.Checks.{check-20, check-21}
 
 module _ (b : List ℕ) where
   first-place : {p : Place} (i n : ℕ) → firstBad b i n ≡ Refused p → (k : ℕ) × (p ≡ Transition k)
@@ -30,3 +32,12 @@ module _ (b : List ℕ) where
           → (p ≡ ChartHeader) ⊎ ((i : ℕ) × (p ≡ Transition i))
       go true e = inr (first-place 0 (countOf b) e)
       go false e = inl (cc)
+
+  -- so what holds of each of the two, by what it says, holds of every refusal
+  pub refused-cases : (A : Place → Type 0) → (¬ HeaderFits b → A ChartHeader)
+      → ((i : ℕ) → HeaderFits b → Least (Faulty b) i → A (Transition i)) → (p : Place) → checkOf b ≡ Refused p → A p
+  refused-cases A f g p e =
+      ⊎-elim
+      (λ q. subst A (sym q) (f (check-20 b .0 (rw q at e))))
+      (λ (i, q). let (h, l) = check-21 b i .0 (rw q at e) in subst A (sym q) (g i h l))
+      (refused-places e)

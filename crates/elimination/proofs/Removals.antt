@@ -1,7 +1,7 @@
 -- The tests of a removal say what document 01 says, both ways; and what a call leaves of the standing bytes.
 use Prim.Native.Nat.{ℕ, zero, suc, _+_, _<_}
 use mathlib.Core.Path.{_≡_, refl, _∙_, ap, subst}
-use mathlib.Core.Logic.{_≢_, ⊎-elim, _↔_, by-cases}
+use mathlib.Core.Logic.{_≢_, _↔_, by-cases}
 use mathlib.Core.Bool.{Bool, cond, _&&_}
 use mathlib.Core.List.{List, [], _∷_}
 use native.Mathlib.Decide.{ℕ-discrete, decLe}
@@ -28,7 +28,7 @@ use Rattle.chart.specs.Checks.{checkOf}
 use Rattle.chart.specs.Steps.{StandingOf}
 use Rattle.chart.specs.Standing.{TakenOut}
 use Rattle.chart.proofs.Checks.{well-formed, passes, check-20, check-21}
-use Rattle.chart.proofs.Refusals.{refused-places}
+use Rattle.chart.proofs.Refusals.{refused-cases}
 use Rattle.chart.proofs.Relations.{steps-formed, steps-listed, standing-step}
 use Rattle.elimination.specs.Removals.{removedAs, standingTest, whenDone, standsTest, ruledOf, removalOf, clearedFrom, leftOf}
 use Rattle.elimination.specs.RemovalAnswers.{StandingFits, Fits, RemovalAnswer, other-header, faulty-at, other-length, other-standing, ruled}
@@ -135,11 +135,7 @@ module _ (b labels : List ℕ) (v l : ℕ) (standing : List ℕ) where
   module _ (B : Bytes labels) where
     -- 20 and 21 are all that the check of the chart refuses
     chart-answer : (p : Place) → checkOf b ≡ stage.Refused p → RemovalAnswer b labels v l standing (Refused p)
-    chart-answer p c =
-        ⊎-elim
-        (λ e. rw e (other-header (check-20 b .0 (rw e at c))))
-        (λ (i, e). let (h, f) = check-21 b i .0 (rw e at c) in rw e (faulty-at h f))
-        (refused-places b c)
+    chart-answer = refused-cases b (λ p. RemovalAnswer b labels v l standing (Refused p)) other-header (λ i. faulty-at)
 
     removal-answer : RemovalAnswer b labels v l standing (removalOf b labels v l standing)
     unfolding ruledOf

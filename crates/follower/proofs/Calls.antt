@@ -1,7 +1,7 @@
 -- One call: what the definitions answer and leave is what document 01 says, both ways.
 use Prim.Native.Nat.{ℕ, _<_, _≤_}
 use mathlib.Core.Path.{_≡_, refl, sym, ap, _∙_}
-use mathlib.Core.Logic.{_≢_, _↔_, Iff·rfl, Iff·symm, Iff·trans, ⊎-elim, by-cases}
+use mathlib.Core.Logic.{_≢_, _↔_, Iff·rfl, Iff·symm, Iff·trans, by-cases}
 use mathlib.Core.List.{List, [], _∷_, List·Memᴰ, List·Memᴰ·head, List·Memᴰ·eq-of-singleton}
 use native.Mathlib.Decide.{ℕ-discrete}
 use native.Mathlib.Omega.{arith}
@@ -26,7 +26,7 @@ use Rattle.bits.proofs.Determined.{test-one}
 use Rattle.chart.specs.Bodies.{verticesOf, startOf, WellFormed}
 use Rattle.chart.specs.Checks.{checkOf}
 use Rattle.chart.proofs.Checks.{well-formed, passes, check-20, check-21}
-use Rattle.chart.proofs.Refusals.{refused-places}
+use Rattle.chart.proofs.Refusals.{refused-cases}
 use Rattle.chart.proofs.Relations.{acts-member}
 use Rattle.follower.specs.States.{membersOf, stateOf, machineOf, setTest, followedAs, answerOf, bytesBy, bytesAfter, eventOf, restartFrom, restartLent, eventLent}
 use Rattle.follower.specs.declared.Follower.{Follower}
@@ -197,11 +197,7 @@ module _ (b : List ℕ) where
 
   -- 20 and 21 are all that the check of the chart refuses
   chart-answer : {s : List ℕ} {c : Call} (p : Place) → checkOf b ≡ stage.Refused p → CallAnswer b s c (Refused p) s
-  chart-answer p e =
-      ⊎-elim
-      (λ q. rw q (other-header (check-20 b .0 (rw q at e))))
-      (λ (i, q). let (h, f) = check-21 b i .0 (rw q at e) in rw q (faulty-at h f))
-      (refused-places b e)
+  chart-answer {s} {c} = refused-cases b (λ p. CallAnswer b s c (Refused p) s) other-header (λ i. faulty-at)
 
   given : {s : List ℕ} {c : Call} {m : Moved} {x : Followed} {t : List ℕ} → Gives m x t → CallAnswer b s c x t
       → CallAnswer b s c (m .answer) (m .follower .set)

@@ -1,7 +1,7 @@
 -- The shortest way: what the definitions answer and leave is what document 02 says, both ways; and so is what the code finds.
 use Prim.Native.Nat.{ℕ, _*_, _+_, _≤_, _<_}
 use mathlib.Core.Path.{_≡_, refl, sym, ap, _∙_, subst}
-use mathlib.Core.Logic.{_↔_, Iff·symm, Iff·trans, ⊎-elim, by-cases}
+use mathlib.Core.Logic.{_↔_, Iff·symm, Iff·trans, by-cases}
 use mathlib.Core.Bool.{true}
 use mathlib.Core.List.{List, map, List·Memᴰ, Memᴰ·of-map, _++_}
 use native.Mathlib.Decide.{decLt}
@@ -34,7 +34,7 @@ use Rattle.bits.specs.Sets.{Has, Empty}
 use Rattle.chart.specs.Bodies.{verticesOf, startOf, WellFormed}
 use Rattle.chart.specs.Checks.{checkOf}
 use Rattle.chart.proofs.Checks.{well-formed, passes, check-20, check-21}
-use Rattle.chart.proofs.Refusals.{refused-places}
+use Rattle.chart.proofs.Refusals.{refused-cases}
 use Rattle.chart.proofs.Relations.{acts-member}
 use Rattle.follower.specs.States.{membersOf, machineOf, followedAs}
 use Rattle.follower.specs.FollowerAnswers.{chartOf, StateBytes, InState, SetPasses}
@@ -58,6 +58,14 @@ given (p, q) h = rw (p, q) h
 -- as the contract has it
 pub both-sym : {A B : Type 0} {x y : A} {u v : B} → (x ≡ y) × (u ≡ v) → (y ≡ x) × (v ≡ u)
 both-sym (p, q) = (sym p, sym q)
+
+-- THE TEST of 53 decides what 53 asks
+state-tested : (b s : List ℕ) → WellFormed b → Decides (stateTest b s) (StatePasses b s)
+state-tested b s W = decides-same (
+  (λ (l, p). record { chart = W; sixteen = l; set = p }),
+  (λ P. (P .sixteen, P .set)),
+)
+    (decides-and (decides-eqb (length s) 16) (tests-set b s))
 
 -- STATES THAT PASS
 module _ {b s : List ℕ} (B : Bytes b) (D : Bytes s) (P : StatePasses b s) where
@@ -142,7 +150,7 @@ module _ {b s : List ℕ} (B : Bytes b) (D : Bytes s) (P : StatePasses b s) wher
 
   -- 20, 21 AND 53 PASSED: 55, 54, and the list
   passed-53 : stateTest b s ≡ true
-  passed-53 = decides-and (decides-eqb (length s) 16) (tests-set b s) .1 (P .sixteen, P .set)
+  passed-53 = state-tested b s (P .chart) .1 P
 
   module _ (out : List ℕ) where
     pub way-none : verticesOf b ≤ eventsToEnd b s → WayGives b s out NoWay out
@@ -190,23 +198,12 @@ module _ (b s out : List ℕ) where
   way-refused e = rw e (refl, refl)
 
   chart-answer : (p : Place) → checkOf b ≡ stage.Refused p → WayAnswer b s out (Refused p) out
-  chart-answer p e =
-      ⊎-elim
-      (λ q. rw q (other-header (check-20 b .0 (rw q at e))))
-      (λ (i, q). let (h, f) = check-21 b i .0 (rw q at e) in rw q (faulty-at h f))
-      (refused-places b e)
+  chart-answer = refused-cases b (λ p. WayAnswer b s out (Refused p) out) other-header (λ i. faulty-at)
 
   -- 53
-  state-tested : WellFormed b → Decides (stateTest b s) (StatePasses b s)
-  state-tested W = decides-same (
-    (λ (l, p). record { chart = W; sixteen = l; set = p }),
-    (λ P. (P .sixteen, P .set)),
-  )
-      (decides-and (decides-eqb (length s) 16) (tests-set b s))
-
   pub way-no-state : WellFormed b → ¬ StatePasses b s → WayGives b s out FollowerSet out
   unfolding wayOf wayLeft
-  way-no-state W n = rw (passes b W, is-false (state-tested W) n) (refl, refl)
+  way-no-state W n = rw (passes b W, is-false (state-tested b s W) n) (refl, refl)
 
 module _ (b s out : List ℕ) (B : Bytes b) (D : Bytes s) where
   way-answer : WayAnswer b s out (wayOf b s (length out)) (wayLeft b s out)
@@ -216,7 +213,7 @@ module _ (b s out : List ℕ) (B : Bytes b) (D : Bytes s) where
       go (stage.Refused p) e = given (way-refused b s out e) (chart-answer b s out p e)
       go stage.Passed e =
           let W = well-formed b e in
-          by-cases (decided (state-tested b s out W))
+          by-cases (decided (state-tested b s W))
           (λ P. passed-answer B D P out)
           (λ n. given (way-no-state b s out W n) (no-state W n))
 

@@ -1,7 +1,7 @@
 -- Demand 1, by the numbers, proved: the check answers n p q r exactly where document 01's sentence for n holds with these
 -- places, and so do the writing of the expression's chart and the removal of a loop.
 use mathlib.Core.Path.{_≡_, refl, sym, _∙_, ap, subst}
-use mathlib.Core.Logic.{_≢_, _⊎_, inl, inr, _↔_, by-cases}
+use mathlib.Core.Logic.{_≢_, inl, inr, _↔_, by-cases}
 use mathlib.Core.Bool.{Bool, true, false, cond, false≢true}
 use mathlib.Core.List.{List}
 use Prim.Native.Nat.{ℕ, suc, _<_}
@@ -29,7 +29,7 @@ use Rattle.bits.specs.Bits.{Bytes}
 use Rattle.chart.specs.Checks as chart
 use Rattle.chart.specs.Steps.{StandingOf}
 use Rattle.chart.proofs.Checks.{check-passed, check-20, check-21}
-use Rattle.chart.proofs.Refusals.{refused-places}
+use Rattle.chart.proofs.Refusals.{refused-cases}
 use Rattle.expression.specs.Table as nodes
 use Rattle.expression.specs.Table.{NodesChecked, passed, ill-sized, malformed-at, misused-at}
 use Rattle.expression.specs.Body.{bodyOf, writtenAfter, writtenOf}
@@ -178,9 +178,6 @@ module _ (f : List ℕ) (bytes : Bytes f) where
   sentence-answers (says-45 h g a l) = by-relation (h .0) (relation.chart-alone (h .1) g a l)
 
   -- FROM THE ANSWER TO ITS SENTENCE
-  at-place : {p q : Place} → q ≡ p → SentenceFor f (placeNumbers p) → SentenceFor f (placeNumbers q)
-  at-place e h = subst (λ (x : Place). SentenceFor f (placeNumbers x)) (sym e) h
-
   records-say : {p : Place} → RecordsChecked f (stage.Refused p) → SentenceFor f (placeNumbers p)
   records-say (too-long h) = says-1 h
   records-say (cut-header k h b c) = says-2 h b (inl c)
@@ -194,11 +191,7 @@ module _ (f : List ℕ) (bytes : Bytes f) where
   nodes-say w (misused-at p z g h e low) = says-12 w (first-misused (nodesIn f) z g h e low)
 
   chart-say : {p : Place} → NodesPass f → chart.checkOf (chartIn f) ≡ stage.Refused p → SentenceFor f (placeNumbers p)
-  chart-say {p} h e = go (refused-places (chartIn f) e)
-    where
-      go : (p ≡ place.ChartHeader) ⊎ ((i : ℕ) × (p ≡ place.Transition i)) → SentenceFor f (placeNumbers p)
-      go (inl q) = at-place q (says-20 h (check-20 (chartIn f) .0 (e ∙ ap stage.Refused q)))
-      go (inr (i, q)) = let (g, l) = check-21 (chartIn f) i .0 (e ∙ ap stage.Refused q) in at-place q (says-21 h g l)
+  chart-say {p} h = refused-cases (chartIn f) (λ x. SentenceFor f (placeNumbers x)) (says-20 h) (λ i. says-21 h) p
 
   labels-say : {p : Place} → ChartPasses f → LabellingAnswer (chartIn f) (labelsIn f) (labelled.Refused p) → SentenceFor f (placeNumbers p)
   labels-say h (labelling.other-length g) = says-30 h g
