@@ -16,6 +16,7 @@ pub mod Removal
 pub mod Removals
 pub mod RemovalTests
 pub mod Orders
+pub mod MultiSteps
 -- expressions and their charts
 pub mod Ascending
 pub mod Derivatives

@@ -1,15 +1,16 @@
 -- Taking out one loop of a chart that passed, where the loops of a set X remain: claims A, B and C.
-use mathlib.Core.Path.{_≡_, refl, subst}
+use mathlib.Core.Path.{refl, subst}
 use mathlib.Core.Logic.{_≢_, _⊎_, inl, inr, _↔_, Ne·symm}
 use Prim.Native.Nat.{ℕ, _<_}
 use native.Mathlib.Omega.{arith}
-use Rattle.theory.specs.Paths.{Star, here, step, Plus, Endless, Avoid, Returns}
+use Rattle.theory.specs.Paths.{Star, here, Plus, Endless, Avoid, Returns}
 use Rattle.theory.specs.Charts.{Steps, Formed, Loop}
 use Rattle.theory.specs.LoopCharts.{InLoop, Around, entry, other, LoopChart}
 use Rattle.theory.specs.Checks.{Passed}
 use Rattle.theory.specs.Standing.{Loops, Standing, Inside}
-use Rattle.theory.proofs.Paths.{plus-star, star-snoc, star-map, star-apart, not-avoid, stray-endless, endless-map, endless-star, endless-reach, cycle-endless, last-visit}
-use Rattle.theory.proofs.Rounds.{round-map}
+use Rattle.theory.proofs.Paths.{plus-star, star-map, star-apart, not-avoid, stray-endless, endless-map, endless-star}
+use Rattle.theory.proofs.Paths.{endless-reach, cycle-endless, last-visit}
+use Rattle.theory.proofs.Rounds.{round-map, reach, loop-chart-agree}
 use Rattle.theory.proofs.Checks.{passed-loop-chart}
 
 module _ {size : ℕ} {S : Steps} (formed : Formed size S) (passed : Passed S) (X : Loops) (loops : (v l : ℕ) → X v l → Loop S v l) (v l : ℕ) (mine : X v l) where
@@ -53,19 +54,17 @@ module _ {size : ℕ} {S : Steps} (formed : Formed size S) (passed : Passed S) (
     same-step p (other h (m, (e, inl z))) = other h (rw z at e)
     same-step {u} p (other h (m, (e, inr x))) = absurd (none (u, m, x, h, star-apart p h))
 
-    same-path : {u w : ℕ} → Star (InLoop S v l) v u → Star (Around (Standing S X) v l) u w → Star (InLoop S v l) v w
-    same-path p here = p
-    same-path p (step e q) = same-path (star-snoc p (same-step p e)) q
-
-    same-endless : Endless (Around (Standing S X) v l) v → Endless (InLoop S v l) v
-    same-endless p = record { at = p .at; first = p .first; next = λ k. same-step (same-path here (endless-reach p k)) (p .next k) }
+    -- so the loop's chart is the same on what v reaches
+    same-chart : (u w : ℕ) → Star (InLoop S v l) v u → InLoop S v l u w ↔ Around (Standing S X) v l u w
+    same-chart u w p = (own u w, same-step p)
 
     -- claim C
     pub taken-loop-chart : LoopChart (Around (Standing S X) v l) v
-    unfolding same-endless
-    taken-loop-chart =
-        let c : LoopChart (InLoop S v l) v = passed-loop-chart formed passed v l (loops v l mine) in
-        record { L1 = taken-L1; L2 = λ p. c .L2 (same-endless p); L3 = λ p. c .L3 (same-path here p) }
+    taken-loop-chart = loop-chart-agree same-chart (passed-loop-chart formed passed v l (loops v l mine))
+
+    -- what stands reaches nothing but the loop's body
+    pub taken-reaches : {w : ℕ} → Star (Around (Standing S X) v l) v w → Star (InLoop S v l) v w
+    taken-reaches = reach same-chart here
 
   -- the loop can be taken out exactly when no loop of X starts inside it
   pub takeable-iff : LoopChart (Around (Standing S X) v l) v ↔ (¬ Inside S X v l)

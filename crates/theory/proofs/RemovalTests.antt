@@ -1,20 +1,29 @@
 -- The tests of a removal give the answers of the rule and of the plain set; so every list of calls has answers.
-use mathlib.Core.Path.{_≡_, refl}
-use mathlib.Core.Logic.{_⊎_, _↔_, Iff·rfl}
-use mathlib.Core.Bool.{Bool, true, false, cond, _||_, not}
+use mathlib.Core.Path.{_≡_, refl, sym, ap}
+use mathlib.Core.Logic.{_≢_, _⊎_, inl, inr, _↔_, Iff·rfl, Iff·symm}
+use mathlib.Core.Bool.{Bool, true, false, cond, _&&_, _||_, not}
 use mathlib.Core.List.{List, [], _∷_}
-use Prim.Native.Nat.{ℕ, _<_}
+use Prim.Native.Nat.{ℕ, zero, suc, _<_, _≤_}
 use native.Mathlib.Decide.{ℕ-discrete}
+use native.Mathlib.Omega.{arith}
+use lib.Dec.{eqb, ltb}
+use lib.ListN.{length}
 use Rattle.theory.specs.Paths.{Endless, Returns}
 use Rattle.theory.specs.Charts.{Steps, Formed, Listed, Any, Loop}
 use Rattle.theory.specs.LoopCharts.{Around, Reached, Stray}
 use Rattle.theory.specs.Standing.{Loops, DecidedLoops, Inside}
 use Rattle.theory.specs.Removals.{Answer, done, refused-51, refused-52, Removes, Plain, left-steps, left-loops, RemovesAll, PlainAll}
-use Rattle.theory.specs.Tests.{Decides}
+use Rattle.theory.specs.Least.{Least}
+use Rattle.theory.specs.Orders.{Pair}
+use Rattle.theory.specs.MultiSteps.{loopAt, InBodyOf, single, refused-57, RemovesAt, EachGoes, StartInside}
+use Rattle.theory.specs.MultiSteps.{RemovesTogether, refused, inside, goes}
+use Rattle.theory.specs.Tests.{Decides, lowest}
 use Rattle.theory.specs.LabellingTests.{StepTest, loopTest}
-use Rattle.theory.specs.RemovalTests.{aroundTest, strayTest, ruleAnswer, insideTest, plainAnswer}
+use Rattle.theory.specs.RemovalTests.{aroundTest, strayTest, ruleAnswer, onDone, firstAnswer, startInsideTest}
+use Rattle.theory.specs.RemovalTests.{groupAnswer, insideTest, plainAnswer}
 use Rattle.theory.proofs.Paths.{plus-below}
-use Rattle.theory.proofs.Tests.{decided, decides-dec, test-of, not-so, decides-same, decides-and, decides-or, decides-not, decides-eqb, decides-below}
+use Rattle.theory.proofs.Tests.{decided, decides-dec, test-of, not-so, decides-same, decides-and, decides-or}
+use Rattle.theory.proofs.Tests.{decides-not, decides-eqb, decides-ltb, decides-below, lowest-stops, stops-least}
 use Rattle.theory.proofs.Reachability.{decides-plus}
 use Rattle.theory.proofs.Rounds.{body-iff, round-below, round-L1, round-L2, round-L3}
 use Rattle.theory.proofs.Checks.{loop-to, loop-not-end}
@@ -54,6 +63,74 @@ module _ {r : StepTest} {R : Steps} {size top : ℕ} (tests : (u l w : ℕ) → 
       go true true true d e f g h = Removes.breaks-L2 (e .0 refl) (L1 .1 (f .0 refl)) (λ back. L2 .0 back (g .0 refl))
       go true true false true e f g h = Removes.breaks-L3 (e .0 refl) (L1 .1 (f .0 refl)) (L2 .1 (not-so g refl)) (round-L3 (loop-not-end formed (e .0 refl)) .1 (h .0 refl))
       go true true false false e f g h = Removes.goes (e .0 refl) (record { L1 = L1 .1 (f .0 refl); L2 = L2 .1 (not-so g refl); L3 = λ p. not-so h refl (round-L3 (loop-not-end formed (e .0 refl)) .0 p) })
+
+  -- SEVERAL TOGETHER: 51 and 52 of the first that is refused by itself, then 57
+  -- each goes by itself, or a is what the first that does not go answers
+  First : List Pair → Answer → Type 0
+  First cs a = ((a ≡ done) × EachGoes R cs)
+      ⊎ ((a ≢ done) × (i : ℕ) × (i < length cs) × ((j : ℕ) → j < i → RemovesAt R cs j done) × RemovesAt R cs i a)
+
+  first-answer : (cs : List Pair) → First cs (firstAnswer r size top cs)
+  unfolding First firstAnswer
+  first-answer [] = inl (refl, λ i h. absurd (omega arith))
+  first-answer ((v, l) ∷ cs) = go (ruleAnswer r size top v l) (rule-answer v l) (first-answer cs)
+    where
+      go : (a : Answer) → Removes R v l a → First cs (firstAnswer r size top cs)
+          → First ((v, l) ∷ cs) (onDone (λ (x : Answer). x) a (firstAnswer r size top cs))
+      go (refused-51 u m) p f = inr ((λ e. let z : _≡_ {A = ℕ} 0 1 = cc in omega arith), 0, omega arith, (λ j h. absurd (omega arith)), p)
+      go (refused-52 u m q) p f = inr ((λ e. let z : _≡_ {A = ℕ} 0 1 = cc in omega arith), 0, omega arith, (λ j h. absurd (omega arith)), p)
+      go done p (inl (e, each)) = inl (e, from)
+        where
+          from : EachGoes R ((v, l) ∷ cs)
+          from zero h = p
+          from (suc j) h = each j (omega arith)
+      go done p (inr (n, i, h, before, q)) = inr (n, suc i, omega arith, from, q)
+        where
+          from : (j : ℕ) → j < suc i → RemovesAt R ((v, l) ∷ cs) j done
+          from zero k = p
+          from (suc j) k = before j (omega arith)
+
+  decides-start-inside : (cs : List Pair) (p : ℕ) → Decides (startInsideTest r size top cs p) (StartInside R cs p)
+  unfolding startInsideTest
+  decides-start-inside cs p = decides-and (decides-ltb p (length cs)) (decides-same (to, from) (decides-below at (length cs)))
+    where
+      at : (j : ℕ) → Decides
+          (not (eqb (loopAt cs p .0) (loopAt cs j .0)) && aroundTest r size top (loopAt cs j .0) (loopAt cs j .1) (loopAt cs p .0))
+          (InBodyOf R (loopAt cs j) (loopAt cs p .0))
+      at j = decides-and (decides-not (decides-eqb (loopAt cs p .0) (loopAt cs j .0)))
+          (decides-same (Iff·symm (body-iff (loopAt cs p .0))) (decides-around (loopAt cs j .0) (loopAt cs j .1) (loopAt cs p .0)))
+
+      to : (j : ℕ) × (j < length cs) × InBodyOf R (loopAt cs j) (loopAt cs p .0)
+          → (j : ℕ) × (j < length cs) × (j ≢ p) × InBodyOf R (loopAt cs j) (loopAt cs p .0)
+      to (j, k, b) = (j, k, (λ e. b .0 (ap (λ (i : ℕ). loopAt cs i .0) (sym e))), b)
+
+      from : (j : ℕ) × (j < length cs) × (j ≢ p) × InBodyOf R (loopAt cs j) (loopAt cs p .0)
+          → (j : ℕ) × (j < length cs) × InBodyOf R (loopAt cs j) (loopAt cs p .0)
+      from (j, k, n, b) = (j, k, b)
+
+  pub group-answer : (cs : List Pair) → RemovesTogether R cs (groupAnswer r size top cs)
+  unfolding First groupAnswer
+  group-answer cs = go (firstAnswer r size top cs) (first-answer cs)
+    where
+      p : ℕ
+      p = lowest (startInsideTest r size top cs) 0 (length cs)
+
+      least : (p < length cs → Least (StartInside R cs) p) × (length cs ≤ p → (k : ℕ) → k < length cs → ¬ StartInside R cs k)
+      least = stops-least (decides-start-inside cs) (lowest-stops (startInsideTest r size top cs) 0 (length cs))
+
+      last : EachGoes R cs → (x : Bool) → Decides x (p < length cs) → RemovesTogether R cs (cond x (refused-57 p) (single done))
+      last each true d = inside each (least .0 (d .0 refl))
+      last each false d = let n = not-so d refl in goes each (λ k s. least .1 (omega arith) k (s .0) s)
+
+      go : (a : Answer) → First cs a → RemovesTogether R cs (onDone single a (cond (ltb p (length cs)) (refused-57 p) (single done)))
+      go a (inr (n, i, h, before, q)) = told a n (refused h before q n)
+        where
+          told : (x : Answer) → x ≢ done → RemovesTogether R cs (single x)
+              → RemovesTogether R cs (onDone single x (cond (ltb p (length cs)) (refused-57 p) (single done)))
+          told done m t = absurd (m refl)
+          told (refused-51 u m) k t = t
+          told (refused-52 u m q) k t = t
+      go a (inl (e, each)) = rw e (last each (ltb p (length cs)) (decides-ltb p (length cs)))
 
 -- s tests the transitions, x a set of their loops
 module _ {s : StepTest} {S : Steps} {size top : ℕ} (tests : (u l w : ℕ) → Decides (s u l w) (S u l w)) (formed : Formed size S) (labels : (u l w : ℕ) → S u l w → l < top) {x : ℕ → ℕ → Bool} {X : Loops} (members : (v l : ℕ) → Decides (x v l) (X v l)) (loops : (v l : ℕ) → X v l → Loop S v l) where

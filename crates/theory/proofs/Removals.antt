@@ -12,7 +12,7 @@ use Rattle.theory.specs.Checks.{Passed}
 use Rattle.theory.specs.Standing.{Loops, SameLoops, Standing, Agree, Inside}
 use Rattle.theory.specs.Removals.{Answer, done, refused-51, refused-52, Removes, Plain, left-steps, left-loops, RemovesAll, PlainAll}
 use Rattle.theory.proofs.Paths.{endless-map}
-use Rattle.theory.proofs.Rounds.{round-map, loop-chart-map}
+use Rattle.theory.proofs.Rounds.{round-map, loop-chart-agree}
 use Rattle.theory.proofs.Removal.{taken-L1, inside-not-L2, taken-loop-chart}
 
 -- at first all transitions stand and all loops remain
@@ -28,10 +28,10 @@ module _ {size : ℕ} {S : Steps} (formed : Formed size S) (passed : Passed S) w
     stands : X v l → Loop R v l
     stands x = let (h, w, e) = loops v l x in (h, w, (agree v l w) .1 (e, inr x))
 
-    remains : Loop R v l → X v l
+    pub remains : Loop R v l → X v l
     remains (h, w, e) = elim (((agree v l w) .0 e) .1) [ inl z ↦ absurd (omega arith) | inr x ↦ x ]
 
-    same : (u w : ℕ) → Around R v l u w ↔ Around (Standing S X) v l u w
+    pub same : (u w : ℕ) → Around R v l u w ↔ Around (Standing S X) v l u w
     same u w = (
       round-map (λ y. (agree v l y) .0) (λ a b (m, e). (m, (agree a m b) .0 e)) u w,
       round-map (λ y. (agree v l y) .1) (λ a b (m, e). (m, (agree a m b) .1 e)) u w,
@@ -43,7 +43,8 @@ module _ {size : ℕ} {S : Steps} (formed : Formed size S) (passed : Passed S) w
     rule-of (Plain.inner x i) = Removes.breaks-L2 (stands x)
         (endless-map (λ u w. (same u w) .1) (taken-L1 formed passed X loops v l x))
         (λ back. inside-not-L2 formed passed X loops v l x i (λ p. back (endless-map (λ u w. (same u w) .1) p)))
-    rule-of (Plain.goes x n) = Removes.goes (stands x) (loop-chart-map (λ u w. ((same u w) .1, (same u w) .0)) (taken-loop-chart formed passed X loops v l x n))
+    rule-of (Plain.goes x n) = Removes.goes (stands x)
+        (loop-chart-agree (λ u w p. ((same u w) .1, (same u w) .0)) (taken-loop-chart formed passed X loops v l x n))
 
     -- and what a call leaves agrees again
     pub left-agree : (a : Answer) → Plain S X v l a → Agree S (left-loops a v l X) (left-steps a v l R)

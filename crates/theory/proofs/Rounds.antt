@@ -2,9 +2,10 @@
 use mathlib.Core.Path.{_≡_, refl, subst}
 use mathlib.Core.Logic.{_≢_, _⊎_, inl, inr, ⊎-elim, _↔_}
 use Prim.Native.Nat.{ℕ, _<_}
-use Rattle.theory.specs.Paths.{Edges, Star, Plus, Endless, Returns, Avoid, Straying}
+use Rattle.theory.specs.Paths.{Edges, Star, here, step, Plus, Endless, Returns, Avoid, Straying}
 use Rattle.theory.specs.LoopCharts.{Round, entry, other, LoopChart, Reached, Stray}
-use Rattle.theory.proofs.Paths.{star-map, plus-map, endless-map, plus-star, plus-of, plus-first, star-cases, star-apart, last-visit, not-avoid}
+use Rattle.theory.proofs.Paths.{star-map, star-snoc, plus-map, endless-reach, plus-star, plus-of, plus-first, star-cases}
+use Rattle.theory.proofs.Paths.{star-apart, last-visit, not-avoid}
 use Rattle.theory.proofs.Cycles.{L1-iff, L2-iff}
 
 module _ {v : ℕ} {Entry : ℕ → Type 0} {Other : Edges} where
@@ -61,14 +62,23 @@ module _ {v : ℕ} {Entry : ℕ → Type 0} {Other : Edges} where
       (λ none. (L2-iff size round-below v) .1 (λ s. none (stray-to s))),
     )
 
--- entries and other transitions that are more, and loop charts with the same transitions
+-- entries and other transitions that are more
 pub round-map : {v : ℕ} {Entry Entry′ : ℕ → Type 0} {Other Other′ : Edges} → ((w : ℕ) → Entry w → Entry′ w) → ((u w : ℕ) → Other u w → Other′ u w) → (u w : ℕ) → Round v Entry Other u w → Round v Entry′ Other′ u w
 round-map f g u w (entry e) = entry (f w e)
 round-map f g u w (other h e) = other h (g u w e)
 
-pub loop-chart-map : {E F : Edges} {v : ℕ} → ((u w : ℕ) → E u w ↔ F u w) → LoopChart E v → LoopChart F v
-loop-chart-map h c = record {
-  L1 = endless-map (λ u w. (h u w) .0) (c .L1);
-  L2 = λ p. c .L2 (endless-map (λ u w. (h u w) .1) p);
-  L3 = λ p. c .L3 (star-map (λ u w. (h u w) .1) p);
-}
+-- TWO CHARTS THAT AGREE ON WHAT v REACHES are loop charts together
+module _ {E F : Edges} {v : ℕ} (agree : (u w : ℕ) → Star E v u → E u w ↔ F u w) where
+  pub reach : {u w : ℕ} → Star E v u → Star F u w → Star E v w
+  reach p here = p
+  reach p (step e q) = reach (star-snoc p (agree _ _ p .1 e)) q
+
+  endless-to : Endless E v → Endless F v
+  endless-to p = record { at = p .at; first = p .first; next = λ k. agree _ _ (endless-reach p k) .0 (p .next k) }
+
+  endless-back : Endless F v → Endless E v
+  endless-back p = record { at = p .at; first = p .first; next = λ k. agree _ _ (reach here (endless-reach p k)) .1 (p .next k) }
+
+  pub loop-chart-agree : LoopChart E v → LoopChart F v
+  unfolding endless-back
+  loop-chart-agree c = record { L1 = endless-to (c .L1); L2 = λ p. c .L2 (endless-back p); L3 = λ p. c .L3 (reach here p) }

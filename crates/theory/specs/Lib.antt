@@ -10,6 +10,7 @@ pub mod Checks
 pub mod Standing
 pub mod Removals
 pub mod Orders
+pub mod MultiSteps
 -- expressions, the rules, and the chart of an expression that is given as a table of nodes
 pub mod Systems
 pub mod Expressions

@@ -5,10 +5,15 @@ use Prim.Native.Nat.{ℕ}
 use Rattle.theory.specs.Paths.{Plus}
 use Rattle.theory.specs.Charts.{Steps, Loop}
 use Rattle.theory.specs.LoopCharts.{InLoop}
+use Rattle.theory.specs.Standing.{Loops}
 
 -- a vertex and a level
 abbrev pub Pair : Type 0
 Pair = ℕ × ℕ
+
+-- the loops of a list, as a set
+abbrev pub Listing : List Pair → Loops
+Listing xs v l = List·Memᴰ (v, l) xs
 
 -- no member stands twice
 pub data Distinct : List Pair → Type 0 where

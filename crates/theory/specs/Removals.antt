@@ -29,9 +29,12 @@ pub data Plain (S : Steps) (X : Loops) (v l : ℕ) : Answer → Type 0 where
   inner : X v l → Inside S X v l → Plain S X v l (refused-52 v l 2)
   goes : X v l → ¬ Inside S X v l → Plain S X v l done
 
--- the pairs other than (v, l)
+-- the loop (v, l) alone, and the pairs other than it
+abbrev pub Only : ℕ → ℕ → Loops
+Only v l u m = (u ≡ v) × (m ≡ l)
+
 abbrev pub Different : ℕ → ℕ → ℕ → ℕ → Type 0
-Different v l u m = ¬ ((u ≡ v) × (m ≡ l))
+Different v l u m = ¬ Only v l u m
 
 -- what a call leaves standing: where it is done, the entries of its loop are gone
 abbrev pub left-steps : Answer → ℕ → ℕ → Steps → Steps
