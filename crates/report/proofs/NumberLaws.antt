@@ -7,7 +7,8 @@ use Prim.Native.Nat.{ℕ, _<_, _≤_}
 use native.Mathlib.Omega.{arith}
 use lib.Dec.{eqb}
 use borrow.Author.Tests.{ne-eqb}
-use Rattle.report.specs.Numbers.{placeNumbers, verdictNumbers, writtenNumbers, removedNumbers, flag, followedNumbers, wayNumbers}
+use Rattle.report.specs.Numbers.{placeNumbers, verdictNumbers, writtenNumbers, removedNumbers, togetherNumbers, flag}
+use Rattle.report.specs.Numbers.{followedNumbers, wayNumbers}
 use Rattle.report.specs.declared.Numbers.{Numbers}
 use Rattle.report.specs.declared.Place.{Place}
 use Rattle.report.specs.declared.Place.the-variants.{File, Record, RecordKind, FileOffset, NodesLength, Node, NodeUses, ChartHeader, Transition, LabelsLength, Unreached, BranchCycle, LoopNoReturn, LoopEndInside, LoopNotLower, RelationLength, PairNoVertex, PairStarts, PairEnds, PairExpressionStep, PairChartStep, OutputLength}
@@ -17,6 +18,8 @@ use Rattle.report.specs.declared.Written.{Written}
 use Rattle.report.specs.declared.Written.the-variants as written
 use Rattle.report.specs.declared.Removed.{Removed}
 use Rattle.report.specs.declared.Removed.the-variants as removed
+use Rattle.report.specs.declared.Together.{Together}
+use Rattle.report.specs.declared.Together.the-variants as together
 use Rattle.report.specs.declared.Followed.{Followed}
 use Rattle.report.specs.declared.Followed.the-variants as followed
 use Rattle.report.specs.declared.Way.{Way}
@@ -152,6 +155,39 @@ removed-at (removed.NotLoop v l r) = refl
 
 pub one-removed : (x y : Removed) → removedNumbers x ≡ removedNumbers y → x ≡ y
 one-removed x y e = sym (removed-at x) ∙ ap removedAt e ∙ removed-at y
+
+-- a number above 52 is no removal's, but for 54
+not-removed : (x : Removed) (n : ℕ) → 52 < n → n ≢ 54 → removedNumbers x .n ≢ n
+not-removed removed.Done n h other e = omega (arith, h, e)
+not-removed (removed.Refused place) n h other e = not-place place n (omega (arith, h)) other e
+not-removed removed.StandingBytes n h other e = omega (arith, h, e)
+not-removed (removed.NoEntry v l) n h other e = omega (arith, h, e)
+not-removed (removed.NotLoop v l r) n h other e = omega (arith, h, e)
+
+-- and no two answers of taking out several loops together
+togetherAt : Numbers → Together
+togetherAt k =
+    cond (eqb (k .n) 56) together.LoopList
+    (cond (eqb (k .n) 57) (together.StartInside (k .p))
+    (together.Removal (removedAt k)))
+
+together-at : (x : Together) → togetherAt (togetherNumbers x) ≡ x
+unfolding togetherAt
+together-at (together.Removal x) =
+    rw (
+      ne-eqb (removedNumbers x .n) 56 (not-removed x 56 (omega arith) (omega arith)),
+      ne-eqb (removedNumbers x .n) 57 (not-removed x 57 (omega arith) (omega arith)),
+    ) (ap together.Removal (removed-at x))
+together-at together.LoopList = refl
+together-at (together.StartInside p) = refl
+
+pub one-together : (x y : Together) → togetherNumbers x ≡ togetherNumbers y → x ≡ y
+one-together x y e = sym (together-at x) ∙ ap togetherAt e ∙ together-at y
+
+-- only a start inside has 57
+pub only-57 : (x : Together) → togetherNumbers x .n ≡ 57 → x ≡ together.StartInside (togetherNumbers x .p)
+unfolding togetherAt
+only-57 x e = sym (together-at x) ∙ rw e
 
 -- and no two answers of a follower
 flag-back : (b : Bool) → eqb (flag b) 1 ≡ b

@@ -1,4 +1,4 @@
--- Document 01's number and values for each case of each answer.
+-- The number and values that documents 01 and 02 give to each case of each answer.
 use mathlib.Core.Bool.{Bool, cond}
 use Prim.Native.Nat.{ℕ}
 use Rattle.report.specs.declared.Numbers.{Numbers}
@@ -10,6 +10,8 @@ use Rattle.report.specs.declared.Written.{Written}
 use Rattle.report.specs.declared.Written.the-variants as written
 use Rattle.report.specs.declared.Removed.{Removed}
 use Rattle.report.specs.declared.Removed.the-variants as removed
+use Rattle.report.specs.declared.Together.{Together}
+use Rattle.report.specs.declared.Together.the-variants as together
 use Rattle.report.specs.declared.Followed.{Followed}
 use Rattle.report.specs.declared.Followed.the-variants as followed
 use Rattle.report.specs.declared.Way.{Way}
@@ -59,6 +61,12 @@ removedNumbers (removed.Refused place) = placeNumbers place
 removedNumbers removed.StandingBytes = four 50 0 0 0
 removedNumbers (removed.NoEntry v l) = four 51 v l 0
 removedNumbers (removed.NotLoop v l r) = four 52 v l r
+
+-- a removal's numbers, or those of a refusal of the list
+abbrev pub togetherNumbers : Together → Numbers
+togetherNumbers (together.Removal removed) = removedNumbers removed
+togetherNumbers together.LoopList = four 56 0 0 0
+togetherNumbers (together.StartInside p) = four 57 p 0 0
 
 -- 1 for yes, 0 for no
 abbrev pub flag : Bool → ℕ

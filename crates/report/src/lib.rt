@@ -1,7 +1,7 @@
 // The answers, and document 01's number and values (n, p, q, r) for each of their cases.
 ghost use mathlib.Core.Path.{_≡_};
 ghost use Rattle.report.specs.Numbers.{four, placeNumbers, verdictNumbers, writtenNumbers, removedNumbers};
-ghost use Rattle.report.specs.Numbers.{flag, followedNumbers, wayNumbers};
+ghost use Rattle.report.specs.Numbers.{togetherNumbers, flag, followedNumbers, wayNumbers};
 
 // A refusal, which holds its place: one case for each number of document 01.
 pub enum Place {
@@ -86,6 +86,16 @@ pub enum Removed {
     NoEntry(usize, usize),
     // 52: loop (vertex, level) whose chart is no loop chart, and the first of L1, L2, L3 that is broken
     NotLoop(usize, usize, usize),
+}
+
+// What taking out several loops together answers: what the removal of one loop does, or a refusal of their list.
+pub enum Together {
+    // done, 20, 21, 30, 50; 51 and 52 of the first loop that is refused
+    Removal(Removed),
+    // 56: list of odd length, too long, or with a loop twice
+    LoopList,
+    // 57: place in the list of a loop whose start is inside another's body
+    StartInside(usize),
 }
 
 // What an event or a restart answers: its word with whether the end is in the set and how many different actions the
@@ -192,6 +202,16 @@ pub fn removed_numbers(removed: Removed) -> Numbers
         Removed::StandingBytes => four_numbers(50, 0, 0, 0),
         Removed::NoEntry(v, l) => four_numbers(51, v, l, 0),
         Removed::NotLoop(v, l, r) => four_numbers(52, v, l, r),
+    }
+}
+
+pub fn together_numbers(together: Together) -> Numbers
+    ensures { λ r. ⌜ r ≡ togetherNumbers together ⌝ }
+{
+    match together {
+        Together::Removal(removed) => removed_numbers(removed),
+        Together::LoopList => four_numbers(56, 0, 0, 0),
+        Together::StartInside(p) => four_numbers(57, p, 0, 0),
     }
 }
 
