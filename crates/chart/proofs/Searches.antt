@@ -16,9 +16,14 @@ use Rattle.bits.proofs.Members.{none, size-lt, has?}
 use Rattle.bits.proofs.Determined.{first-one}
 use Rattle.bits.proofs.Gains.{put-long, put-here, put-other, same-table}
 use Rattle.theory.specs.Paths.{Edges, Star, here, step, Plus, last, more, Avoid}
+use Rattle.theory.proofs.Search.{look-below}
 use Rattle.theory.proofs.Paths.{star-then, star-snoc, star-map, plus-of, plus-snoc}
 use Rattle.chart.specs.declared.sets.Search.{Search}
 use Rattle.chart.specs.Sets.{Leads, FromSet, Known, Jumps, Visited, OnCycle, turnOf, beginOf, endOf, Searched, Cycles}
+
+-- a set that is not empty has a member
+pub some-member : (s : Set) → ¬ Empty s → (w : ℕ) × Has s w
+some-member s n = elim (look-below (has? s) 128) [ inl (w, l, h) ↦ (w, h) | inr g ↦ absurd (n (λ w h. g w (h .below) h)) ]
 
 -- w is where the search stops: nothing changes
 pub visit-stop : (a : List ℕ) (stop w : ℕ) (s : Search) → w ≡ stop → Visited a stop w s s

@@ -10,18 +10,18 @@ use lib.ListN.{length, getD}
 use lib.Seq.{ext-getD}
 use Rattle.theory.specs.Charts.{SameSteps, Loop}
 use Rattle.theory.specs.Standing.{Loops, SameLoops, Agree}
-use Rattle.theory.specs.Removals.{done, Different, left-steps, left-loops}
+use Rattle.theory.specs.Removals.{Only}
 use Rattle.chart.specs.Bodies.{countOf, fromOf}
 use Rattle.chart.specs.Steps.{StepsOf, StandingOf}
-use Rattle.chart.specs.Standing.{StandsAt, StandsFor, TakenOut}
+use Rattle.chart.specs.Standing.{StandsAt, StandsFor, TakenOutOf}
 use Rattle.chart.proofs.Relations.{standing-step}
 
 -- is this pair (v, l)?
-same-or-different : (v l u m : ℕ) → ((u ≡ v) × (m ≡ l)) ⊎ Different v l u m
-same-or-different v l u m =
+pub only? : (v l u m : ℕ) → Dec (Only v l u m)
+only? v l u m =
     by-cases (ℕ-discrete u v)
-    (λ p. by-cases (ℕ-discrete m l) (λ q. inl (p, q)) (λ q. inr (λ e. q (e .1))))
-    (λ p. inr (λ e. p (e .0)))
+    (λ p. by-cases (ℕ-discrete m l) (λ q. yes (p, q)) (λ q. no (λ e. q (e .1))))
+    (λ p. no (λ e. p (e .0)))
 
 module _ {body labels : List ℕ} where
   -- WHAT STANDS by these bytes is what stands while these loops remain
@@ -64,12 +64,13 @@ module _ {body labels : List ℕ} where
     );
   }
 
-  module _ {v l : ℕ} {before after : List ℕ} (t : TakenOut body labels v l before after) where
-    -- A REMOVAL leaves the relation that the theory's does
-    pub taken-leaves : SameSteps (StandingOf body labels after) (left-steps done v l (StandingOf body labels before))
+  -- A REMOVAL of the loops of Y, of which it is decided which are in it
+  module _ {Y : Loops} (is? : (u m : ℕ) → Dec (Y u m)) {before after : List ℕ} (t : TakenOutOf body labels Y before after) where
+    -- leaves the relation that the theory's does
+    pub taken-leaves : SameSteps (StandingOf body labels after) (λ u m w. StandingOf body labels before u m w × ¬ Y u m)
     taken-leaves u m w = (
-      (λ s. ⊎-elim
-          (λ e. let z = t .gone (s .at) (s .within) (e .0) (e .1) in absurd (omega (arith, s .holds .stands)))
+      (λ s. by-cases (is? (fromOf body (s .at)) (getD labels (s .at) 0))
+          (λ y. let z = t .gone (s .at) (s .within) y in absurd (omega (arith, s .holds .stands)))
           (λ d. (
             record {
               at = s .at;
@@ -78,39 +79,40 @@ module _ {body labels : List ℕ} where
               enters = s .enters;
               holds = record { label = s .holds .label; stands = sym (t .kept (s .at) (s .within) d) ∙ s .holds .stands };
             },
-            λ e. d (s .leaves ∙ e .0, s .holds .label ∙ e .1),
-          ))
-          (same-or-different v l (fromOf body (s .at)) (getD labels (s .at) 0))),
+            rw (s .leaves, s .holds .label) at d,
+          ))),
       (λ (s, d). record {
         at = s .at;
         within = s .within;
         leaves = s .leaves;
         enters = s .enters;
-        holds = record { label = s .holds .label; stands = t .kept (s .at) (s .within) (λ e. d (sym (s .leaves) ∙ e .0, sym (s .holds .label) ∙ e .1)) ∙ s .holds .stands };
+        holds = record {
+          label = s .holds .label;
+          stands = t .kept (s .at) (s .within) (rw (s .leaves, s .holds .label) d) ∙ s .holds .stands;
+        };
       }),
     )
 
-    -- and stands for the loops without the pair, whose level is not that of branches
-    pub taken-stands : {X : Loops} → 0 < l → StandsFor body labels before X
-        → StandsFor body labels after (left-loops done v l X)
+    -- and stands for the loops that are left, no level of Y being that of branches
+    pub taken-stands : {X : Loops} → ((u m : ℕ) → Y u m → 0 < m) → StandsFor body labels before X
+        → StandsFor body labels after (λ u m. X u m × ¬ Y u m)
     taken-stands {X} level h = record {
       long = t .long ∙ h .long;
-      marks = λ i g. ⊎-elim
-          (λ e. omega (arith, t .gone i g (e .0) (e .1)))
-          (λ d. omega (arith, t .kept i g d, h .marks i g))
-          (same-or-different v l (fromOf body i) (getD labels i 0));
-      stands = λ i g. ⊎-elim (out i g) (stay i g) (same-or-different v l (fromOf body i) (getD labels i 0));
+      marks = λ i g. by-cases (is? (fromOf body i) (getD labels i 0))
+          (λ y. omega (arith, t .gone i g y))
+          (λ d. omega (arith, t .kept i g d, h .marks i g));
+      stands = λ i g. by-cases (is? _ _) (out i g) (stay i g);
     }
       where
-        out : (i : ℕ) → i < countOf body → (fromOf body i ≡ v) × (getD labels i 0 ≡ l)
-            → (getD after i 0 ≡ 1) ↔ StandsAt body labels (left-loops done v l X) i
-        out i g e = (
-          (λ s. absurd (omega (arith, t .gone i g (e .0) (e .1)))),
-          (λ c. absurd (⊎-elim (λ z. omega (arith, e .1)) (λ x. x .1 e) c)),
+        out : (i : ℕ) → i < countOf body → Y (fromOf body i) (getD labels i 0)
+            → (getD after i 0 ≡ 1) ↔ StandsAt body labels (λ u m. X u m × ¬ Y u m) i
+        out i g y = (
+          (λ s. absurd (omega (arith, t .gone i g y))),
+          (λ c. absurd (⊎-elim (λ z. omega (arith, level _ _ y)) (λ x. x .1 y) c)),
         )
 
-        stay : (i : ℕ) → i < countOf body → Different v l (fromOf body i) (getD labels i 0)
-            → (getD after i 0 ≡ 1) ↔ StandsAt body labels (left-loops done v l X) i
+        stay : (i : ℕ) → i < countOf body → ¬ Y (fromOf body i) (getD labels i 0)
+            → (getD after i 0 ≡ 1) ↔ StandsAt body labels (λ u m. X u m × ¬ Y u m) i
         stay i g d = (
           (λ s. ⊎-elim inl (λ x. inr (x, d)) (h .stands i g .0 (sym (t .kept i g d) ∙ s))),
           (λ c. t .kept i g d ∙ h .stands i g .1 (⊎-elim inl (λ x. inr (x .0)) c)),
@@ -128,11 +130,10 @@ module _ {body labels : List ℕ} where
           (λ e. absurd (n (g .stands i w .1 (h .stands i w .0 e))))
           (λ m. omega (arith, g .marks i w, h .marks i w)))
 
-  pub one-taken : {v l : ℕ} {before a b : List ℕ} → length before ≡ countOf body → TakenOut body labels v l before a
-      → TakenOut body labels v l before b → a ≡ b
-  one-taken {v} {l} {before} {a} {b} long g h = ext-getD 0 a b (g .long ∙ sym (h .long)) (λ i k.
+  pub one-taken : {Y : Loops} {before a b : List ℕ} → ((u m : ℕ) → Dec (Y u m)) → length before ≡ countOf body
+      → TakenOutOf body labels Y before a → TakenOutOf body labels Y before b → a ≡ b
+  one-taken {Y} {before} {a} {b} is? long g h = ext-getD 0 a b (g .long ∙ sym (h .long)) (λ i k.
       let w : i < countOf body = omega (arith, g .long) in
-      ⊎-elim
-      (λ e. g .gone i w (e .0) (e .1) ∙ sym (h .gone i w (e .0) (e .1)))
-      (λ d. g .kept i w d ∙ sym (h .kept i w d))
-      (same-or-different v l (fromOf body i) (getD labels i 0)))
+      by-cases (is? _ _)
+      (λ y. g .gone i w y ∙ sym (h .gone i w y))
+      (λ d. g .kept i w d ∙ sym (h .kept i w d)))

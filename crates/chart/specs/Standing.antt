@@ -6,7 +6,7 @@ use mathlib.Core.Logic.{_⊎_, _↔_}
 use mathlib.Core.List.{List}
 use lib.ListN.{length, getD}
 use Rattle.theory.specs.Standing.{Loops}
-use Rattle.theory.specs.Removals.{Different}
+use Rattle.theory.specs.Removals.{Only}
 use Rattle.chart.specs.Bodies.{countOf, fromOf}
 
 -- transition i is a branch, or an entry whose loop is in the set
@@ -19,9 +19,13 @@ pub record StandsFor (body labels standing : List ℕ) (X : Loops) : Type 0 wher
   pub marks : (i : ℕ) → i < countOf body → getD standing i 0 ≤ 1
   pub stands : (i : ℕ) → i < countOf body → (getD standing i 0 ≡ 1) ↔ StandsAt body labels X i
 
--- what taking out (v, l) makes of the bytes: 0 where a transition leaves v with the label l; all else is unchanged
-pub record TakenOut (body labels : List ℕ) (v l : ℕ) (before after : List ℕ) : Type 0 where
+-- what taking out the loops of a set makes of the bytes: 0 where a transition is an entry of one of them; all else is
+-- unchanged
+pub record TakenOutOf (body labels : List ℕ) (X : Loops) (before after : List ℕ) : Type 0 where
   pub long : length after ≡ length before
-  pub gone : (i : ℕ) → i < countOf body → fromOf body i ≡ v → getD labels i 0 ≡ l → getD after i 0 ≡ 0
-  pub kept : (i : ℕ) → i < countOf body → Different v l (fromOf body i) (getD labels i 0)
-      → getD after i 0 ≡ getD before i 0
+  pub gone : (i : ℕ) → i < countOf body → X (fromOf body i) (getD labels i 0) → getD after i 0 ≡ 0
+  pub kept : (i : ℕ) → i < countOf body → ¬ X (fromOf body i) (getD labels i 0) → getD after i 0 ≡ getD before i 0
+
+-- of one loop
+abbrev pub TakenOut : (body labels : List ℕ) (v l : ℕ) (before after : List ℕ) → Type 0
+TakenOut body labels v l before after = TakenOutOf body labels (Only v l) before after

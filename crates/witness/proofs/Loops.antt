@@ -24,6 +24,7 @@ use Rattle.bits.specs.Sets.{Has, Empty, Members}
 use Rattle.bits.specs.Tables.{rowOf}
 use Rattle.chart.specs.Bodies.{verticesOf, WellFormed}
 use Rattle.chart.specs.Steps.{StepsOf}
+use Rattle.chart.proofs.Searches.{some-member}
 use Rattle.chart.proofs.Relations.{steps-formed}
 use Rattle.witness.specs.Given.{Tables}
 use Rattle.witness.specs.Loops.{LoopSaid, Back, Returning, AllBack, InBoth, BelowLevel, HasBodies}
@@ -31,7 +32,6 @@ use Rattle.witness.specs.Answers.{FailsAt, VertexSaid, LoopsSaid}
 use Rattle.witness.proofs.Labellings.{loop-below}
 use Rattle.witness.proofs.Firsts.{first-as}
 use Rattle.witness.proofs.Reaching.{step-low, leads-branch, branch-leads}
-use Rattle.witness.proofs.Sifting.{some-member}
 
 -- the way to v, up to the first time that it is there
 to-first : {E : Edges} {u v : ℕ} → Star E u v → Star (Avoid v E) u v

@@ -9,7 +9,6 @@ use Rattle.bits.specs.Words.{On, With, Without}
 use Rattle.bits.specs.Sets.{Has, Empty, Members, Difference}
 use Rattle.bits.proofs.Gains.{taken-less, taken-or}
 use Rattle.bits.proofs.Members.{zero-off, low-has, high-has, has-low, has-high, has?}
-use Rattle.theory.proofs.Search.{look-below}
 use Rattle.witness.specs.Loops.{WithIf}
 
 -- of the bits of a word without those that are left, found has those with P
@@ -69,7 +68,3 @@ sifted P s r f g = record { exactly = λ w m. by-cases (decLt w 64) (low w) (λ 
 pub all-sifted : {P : ℕ → Type 0} {s r d : Set} → Members (λ (w : ℕ). Has s w × P w) r → Difference s r d → Empty d
     → (w : ℕ) → Has s w → P w
 all-sifted {r = r} M D E w h = by-cases (has? r w) (λ k. M .exactly w (h .below) .0 k .1) (λ n. absurd (E w (D w .1 (h, n))))
-
--- a set that is not empty has a member
-pub some-member : (s : Set) → ¬ Empty s → (w : ℕ) × Has s w
-some-member s n = elim (look-below (has? s) 128) [ inl (w, l, h) ↦ (w, h) | inr none ↦ absurd (n (λ w h. none w (h .below) h)) ]
