@@ -97,7 +97,7 @@ pub clearing-all : {b labels : List ℕ} {v l i : ℕ} {r : Span} {before after 
     → TakenOut b labels v l before after
 clearing-all {b} {labels} {v} {l} {i} {r} {before} {after} R e C = record {
   long = C .long;
-  gone = λ k h p q. let (f, g) = between (R .begins) (R .ends) k h p in C .gone k f (omega (arith, g, e)) q;
+  gone = λ k h (p, q). let (f, g) = between (R .begins) (R .ends) k h p in C .gone k f (omega (arith, g, e)) q;
   kept = λ k h d. by-cases (ℕ-discrete (fromOf b k) v)
       (λ p. let (f, g) = between (R .begins) (R .ends) k h p in C .kept k f (omega (arith, g, e)) (λ q. d (p, q)))
       (λ p. outside k p);

@@ -5,3 +5,6 @@ pub mod Loops
 pub mod Walking
 pub mod Entries
 pub mod Answers
+pub mod LoopLists
+pub mod Rulings
+pub mod TogetherCalls

@@ -17,7 +17,7 @@ use Rattle.chart.specs.Bodies.{verticesOf, countOf, WellFormed}
 use Rattle.chart.specs.Steps.{StepsOf}
 use Rattle.chart.specs.Standing.{StandsFor}
 use Rattle.chart.proofs.Relations.{steps-formed, steps-listed}
-use Rattle.chart.proofs.Standing.{stands-agree, stands-same, taken-stands}
+use Rattle.chart.proofs.Standing.{only?, stands-agree, stands-same, taken-stands}
 use Rattle.elimination.specs.Removals.{removedAs, removalOf, leftOf, answersOf, leftAfter}
 use Rattle.elimination.specs.RemovalAnswers.{Fits}
 use Rattle.elimination.proofs.Removals.{removal-ruled, left-kept, done-leaves}
@@ -55,7 +55,8 @@ module _ {b labels : List ℕ} (c : Passing b labels) where
     pub call-stands : (a : Answer) → Plain (StepsOf b labels) X v l a
         → StandsFor b labels (leftOf b labels v l standing) (left-loops a v l X)
     call-stands done (Plain.goes x n) =
-        taken-stands (done-leaves b labels v l standing (call-answers (Plain.goes x n))) (loops v l x .0) h
+        taken-stands (only? v l) (done-leaves b labels v l standing (call-answers (Plain.goes x n)))
+        (λ u m (e, f). rw f (loops v l x .0)) h
     call-stands (refused-51 p q) r = refusal-stands r (λ e. let z : _≡_ {A = ℕ} 0 1 = cc in omega arith)
     call-stands (refused-52 p q k) r = refusal-stands r (λ e. let z : _≡_ {A = ℕ} 0 1 = cc in omega arith)
 

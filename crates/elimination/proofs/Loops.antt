@@ -2,6 +2,7 @@
 use Prim.Native.Nat.{ℕ}
 use mathlib.Core.Path.{_≡_, refl}
 use mathlib.Core.Logic.{_≢_, _⊎_, inl, inr, ⊎-elim, _↔_}
+use mathlib.Core.Bool.{false}
 use native.Mathlib.Omega.{arith}
 use Rattle.theory.specs.Paths.{Edges, Star, Endless, Returns}
 use Rattle.theory.specs.Charts.{Steps, Formed, Any, Loop}
@@ -10,15 +11,19 @@ use Rattle.theory.specs.Removals.{Removes, done, refused-52}
 use Rattle.theory.proofs.Paths.{star-map, plus-map}
 use Rattle.theory.proofs.Rounds.{round-L1, round-L2, round-L3}
 use Rattle.theory.proofs.Checks.{loop-not-end}
+use Rattle.bits.specs.declared.sets.Set.{Set}
+use Rattle.bits.specs.Sets.{Has}
+use Rattle.elimination.specs.declared.walk.Found.{Found}
 use Rattle.elimination.specs.Loops.{Broken, none, first, second, third}
+use Rattle.elimination.specs.Walks.{FoundIn, BrokenBy, found-none, found-first, found-second, found-third}
 
 -- the same entries and the same other transitions reach the same, and break the same
 module _ {v : ℕ} {Entry Entry′ : ℕ → Type 0} {Other Other′ : Edges} (entries : (w : ℕ) → Entry w ↔ Entry′ w)
     (others : (u w : ℕ) → Other u w ↔ Other′ u w) where
-  reached-to : {w : ℕ} → Reached v Entry Other w → Reached v Entry′ Other′ w
+  pub reached-to : {w : ℕ} → Reached v Entry Other w → Reached v Entry′ Other′ w
   reached-to (x, e, p) = (x, entries x .0 e, star-map (λ u y (n, f). (n, others u y .0 f)) p)
 
-  reached-from : {w : ℕ} → Reached v Entry′ Other′ w → Reached v Entry Other w
+  pub reached-from : {w : ℕ} → Reached v Entry′ Other′ w → Reached v Entry Other w
   reached-from (x, e, p) = (x, entries x .1 e, star-map (λ u y (n, f). (n, others u y .1 f)) p)
 
   stray-to : Stray v Entry Other → Stray v Entry′ Other′
@@ -32,6 +37,22 @@ module _ {v : ℕ} {Entry Entry′ : ℕ → Type 0} {Other Other′ : Edges} (e
   broken-same (first p n) = first (λ z. p (reached-from z)) (λ s. n (stray-from s))
   broken-same (second s) = second (stray-to s)
   broken-same (third p n q) = third (reached-to p) (λ s. n (stray-from s)) (reached-to q)
+
+-- what is found to be broken is, where the end was not past
+pub broken-found : {v r : ℕ} {Entry : ℕ → Type 0} {Other : Edges} {past : Set} {found : Found} → ¬ Has past 0
+    → FoundIn v Entry Other past found → BrokenBy found r → Broken v Entry Other r
+broken-found m F (found-none s h n) =
+    none (F .returns s .0 h) (F .none s) (λ z. ⊎-elim n m (F .all s 0 z))
+broken-found m F (found-first s n) = first (λ z. n (F .returns s .1 z)) (F .none s)
+broken-found m F (found-second s) = second (F .stray s)
+broken-found m F (found-third s h g) = third (F .returns s .0 h) (F .none s) (F .sound s 0 g)
+
+-- where nothing is, no cycle stands aside, and the end is not in the body
+pub not-broken : {r : ℕ} {found : Found} → r ≡ 0 → BrokenBy found r → (found .stray ≡ false) × ¬ Has (found .body) 0
+not-broken e (found-none s h n) = (s, n)
+not-broken e (found-first s n) = absurd (omega (arith, e))
+not-broken e (found-second s) = absurd (omega (arith, e))
+not-broken e (found-third s h g) = absurd (omega (arith, e))
 
 -- WHAT IS BROKEN IS THE RULE'S ANSWER, over standing transitions R of vertices below size
 module _ {size : ℕ} {R : Steps} (formed : Formed size R) {v l : ℕ} (loop : Loop R v l) where

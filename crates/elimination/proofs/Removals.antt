@@ -1,6 +1,6 @@
 -- The tests of a removal say what document 01 says, both ways; and what a call leaves of the standing bytes.
 use Prim.Native.Nat.{ℕ, zero, suc, _+_, _<_}
-use mathlib.Core.Path.{_≡_, refl, _∙_, ap, subst}
+use mathlib.Core.Path.{_≡_, refl, sym, _∙_, ap, subst}
 use mathlib.Core.Logic.{_≢_, _↔_, by-cases}
 use mathlib.Core.Bool.{Bool, cond, _&&_}
 use mathlib.Core.List.{List, [], _∷_}
@@ -19,7 +19,6 @@ use Rattle.theory.proofs.Removals.{one-answer}
 use Rattle.report.specs.declared.Removed.{Removed}
 use Rattle.report.specs.declared.Removed.the-variants.{Done, Refused, StandingBytes, NoEntry, NotLoop}
 use Rattle.report.specs.declared.Place.{Place}
-use Rattle.report.specs.declared.Place.the-variants as place
 use Rattle.report.specs.declared.Stage.{Stage}
 use Rattle.report.specs.declared.Stage.the-variants as stage
 use Rattle.bits.specs.Bits.{Bytes}
@@ -30,8 +29,9 @@ use Rattle.chart.specs.Standing.{TakenOut}
 use Rattle.chart.proofs.Checks.{well-formed, passes, check-20, check-21}
 use Rattle.chart.proofs.Refusals.{refused-cases}
 use Rattle.chart.proofs.Relations.{steps-formed, steps-listed, standing-step}
-use Rattle.elimination.specs.Removals.{removedAs, standingTest, whenDone, standsTest, ruledOf, removalOf, clearedFrom, leftOf}
-use Rattle.elimination.specs.RemovalAnswers.{StandingFits, Fits, RemovalAnswer, other-header, faulty-at, other-length, other-standing, ruled}
+use Rattle.elimination.specs.Removals.{removedAs, standingTest, whenDone, onFits, standsTest, ruledOf, removalOf, clearedFrom, leftOf}
+use Rattle.elimination.specs.RemovalAnswers.{StandingFits, Fits, OpeningAnswer, other-header, faulty-at, other-length}
+use Rattle.elimination.specs.RemovalAnswers.{other-standing, RemovalAnswer, opening, ruled}
 
 -- the test of 50 decides what 50 asks
 pub tests-standing : (b standing : List ℕ) → Decides (standingTest b standing) (StandingFits b standing)
@@ -68,48 +68,58 @@ module _ (b labels standing : List ℕ) where
     to-vertex = λ u l w s. steps-formed b labels W .to-vertex u l w (standing-step s);
   }
 
+  pub standing-low : WellFormed b → (u l w : ℕ) → StandingOf b labels standing u l w → w < 128
+  standing-low W u l w s = omega (arith, standing-formed W .to-vertex u l w s, W .header .vertices-high)
+
   pub standing-labels : Bytes labels → (u l w : ℕ) → StandingOf b labels standing u l w → l < 256
   standing-labels B u l w s = steps-listed b labels B .label-below u l w (standing-step s)
 
--- THE STAGES of the answer to (v, l)
-module _ (b labels : List ℕ) (v l : ℕ) (standing : List ℕ) where
-  -- 20 and 21
-  pub removal-refused : (p : Place) → checkOf b ≡ stage.Refused p → removalOf b labels v l standing ≡ Refused p
-  unfolding removalOf
-  removal-refused p c = rw c
+-- 20, 21, 30 AND 50: one of them refuses, or all pass
+-- 20 and 21 are all that the check of the chart refuses
+pub chart-refused : (b labels standing : List ℕ) (p : Place) → checkOf b ≡ stage.Refused p → OpeningAnswer b labels standing (Refused p)
+chart-refused b labels standing = refused-cases b (λ p. OpeningAnswer b labels standing (Refused p)) other-header (λ i. faulty-at)
 
-  -- 30
-  pub removal-long : checkOf b ≡ stage.Passed → length labels ≢ countOf b
-      → removalOf b labels v l standing ≡ Refused (place.LabelsLength (length labels))
-  unfolding removalOf
-  removal-long c h = rw (c, ne-eqb (length labels) (countOf b) h)
-
-  -- 50
-  pub removal-standing : checkOf b ≡ stage.Passed → length labels ≡ countOf b → ¬ StandingFits b standing
-      → removalOf b labels v l standing ≡ StandingBytes
-  unfolding removalOf
-  removal-standing c h n = rw (c, eq-eqb (length labels) (countOf b) h, is-false (tests-standing b standing) n)
-
-  -- one of them refuses, or all pass
-  stages : {A : Type 0} → ((p : Place) → checkOf b ≡ stage.Refused p → A)
-      → (checkOf b ≡ stage.Passed → length labels ≢ countOf b → A)
-      → (checkOf b ≡ stage.Passed → length labels ≡ countOf b → ¬ StandingFits b standing → A)
-      → (Fits b labels standing → A) → A
-  stages {A} at-20 at-30 at-50 fits = go (checkOf b) refl
+module _ (b labels standing : List ℕ) where
+  pub opening-stages : {A : Type 0} → ((a : Removed) → OpeningAnswer b labels standing a → A) → (Fits b labels standing → A) → A
+  opening-stages {A} refuse fits = go (checkOf b) refl
     where
       go : (x : Stage) → checkOf b ≡ x → A
       go stage.Passed c =
           by-cases (ℕ-discrete (length labels) (countOf b))
           (λ h. by-cases (decided (tests-standing b standing))
           (λ s. fits (record { formed = well-formed b c; each = h; marked = s }))
-          (at-50 c h))
-          (at-30 c)
-      go (stage.Refused p) c = at-20 p c
+          (λ n. refuse _ (other-standing (well-formed b c) h n)))
+          (λ n. refuse _ (other-length (well-formed b c) n))
+      go (stage.Refused p) c = refuse _ (chart-refused b labels standing p c)
+
+  -- the answer of a call that asks them first, by how it tells them
+  module _ {A : Type 0} (told : Removed → A) (a : A) where
+    pub on-refusal : {x : Removed} → OpeningAnswer b labels standing x → onFits b labels standing told a ≡ told x
+    on-refusal (other-header h) = rw (check-20 b .1 h)
+    on-refusal (faulty-at h f) = rw (check-21 b _ .1 (h, f))
+    on-refusal (other-length W n) = rw (passes b W, ne-eqb (length labels) (countOf b) n)
+    on-refusal (other-standing W h n) =
+        rw (passes b W, eq-eqb (length labels) (countOf b) h, is-false (tests-standing b standing) n)
+
+    pub on-fits : Fits b labels standing → onFits b labels standing told a ≡ a
+    on-fits f = rw (passes b (f .formed), eq-eqb (length labels) (countOf b) (f .each), tests-standing b standing .1 (f .marked))
+
+  -- none of them is done
+  pub opening-refuses : {a : Removed} → OpeningAnswer b labels standing a → a ≢ Done
+  opening-refuses (other-header h) e = let z : _≡_ {A = ℕ} 0 1 = cc in omega arith
+  opening-refuses (faulty-at h f) e = let z : _≡_ {A = ℕ} 0 1 = cc in omega arith
+  opening-refuses (other-length W n) e = let z : _≡_ {A = ℕ} 0 1 = cc in omega arith
+  opening-refuses (other-standing W h n) e = let z : _≡_ {A = ℕ} 0 1 = cc in omega arith
+
+-- THE ANSWER to (v, l)
+module _ (b labels : List ℕ) (v l : ℕ) (standing : List ℕ) where
+  pub removal-refused : {a : Removed} → OpeningAnswer b labels standing a → removalOf b labels v l standing ≡ a
+  unfolding removalOf
+  removal-refused o = on-refusal b labels standing (λ a. a) _ o
 
   removal-fits : Fits b labels standing → removalOf b labels v l standing ≡ ruledOf b labels v l standing
   unfolding removalOf
-  removal-fits f =
-      rw (passes b (f .formed), eq-eqb (length labels) (countOf b) (f .each), tests-standing b standing .1 (f .marked))
+  removal-fits f = on-fits b labels standing (λ a. a) _ f
 
   -- DONE, 51 AND 52: where the rest passes, the answer is the rule's
   rule-says : Bytes labels → WellFormed b
@@ -125,38 +135,31 @@ module _ (b labels : List ℕ) (v l : ℕ) (standing : List ℕ) where
 
   pub done-fits : removalOf b labels v l standing ≡ Done → Fits b labels standing
   done-fits e =
-      stages
-      (λ p c. let r = removal-refused p c in let z : _≡_ {A = ℕ} 0 1 = cc in absurd (omega arith))
-      (λ c h. let r = removal-long c h in let z : _≡_ {A = ℕ} 0 1 = cc in absurd (omega arith))
-      (λ c h n. let r = removal-standing c h n in let z : _≡_ {A = ℕ} 0 1 = cc in absurd (omega arith))
-      (λ f. f)
+      opening-stages b labels standing (λ a o. absurd (opening-refuses b labels standing o (sym (removal-refused o) ∙ e))) (λ f. f)
 
   -- THE ANSWER IS a exactly where document 01 says so
   module _ (B : Bytes labels) where
-    -- 20 and 21 are all that the check of the chart refuses
-    chart-answer : (p : Place) → checkOf b ≡ stage.Refused p → RemovalAnswer b labels v l standing (Refused p)
-    chart-answer = refused-cases b (λ p. RemovalAnswer b labels v l standing (Refused p)) other-header (λ i. faulty-at)
-
     removal-answer : RemovalAnswer b labels v l standing (removalOf b labels v l standing)
     unfolding ruledOf
     removal-answer =
-        stages
-        (λ p c. rw (removal-refused p c) (chart-answer p c))
-        (λ c h. rw (removal-long c h) (other-length (well-formed b c) h))
-        (λ c h n. rw (removal-standing c h n) (other-standing (well-formed b c) h n))
+        opening-stages b labels standing (λ a o. rw (removal-refused o) (opening o))
         (λ f. rw (removal-fits f) (ruled f (rule-says B (f .formed))))
 
     answer-removal : {a : Removed} → RemovalAnswer b labels v l standing a → removalOf b labels v l standing ≡ a
-    answer-removal (other-header h) = removal-refused _ (check-20 b .1 h)
-    answer-removal (faulty-at h f) = removal-refused _ (check-21 b _ .1 (h, f))
-    answer-removal (other-length W h) = removal-long (passes b W) h
-    answer-removal (other-standing W h n) = removal-standing (passes b W) h n
+    answer-removal (opening o) = removal-refused o
     answer-removal (ruled f r) = removal-ruled B f r
 
     pub removal-says : (a : Removed) → (removalOf b labels v l standing ≡ a) ↔ RemovalAnswer b labels v l standing a
     removal-says a = ((λ e. subst (RemovalAnswer b labels v l standing) e removal-answer), answer-removal)
 
 -- THE STANDING BYTES after the call
+pub when-refused : (a : Removed) → a ≢ Done → (cleared kept : List ℕ) → whenDone a cleared kept ≡ kept
+when-refused Done n cleared kept = absurd (n refl)
+when-refused (Refused p) n cleared kept = refl
+when-refused StandingBytes n cleared kept = refl
+when-refused (NoEntry u m) n cleared kept = refl
+when-refused (NotLoop u m r) n cleared kept = refl
+
 module _ (b labels : List ℕ) (v l : ℕ) where
   -- transition i leaves v with the label l
   abbrev entryTest : ℕ → Bool
@@ -178,7 +181,7 @@ module _ (b labels : List ℕ) (v l : ℕ) where
       → TakenOut b labels v l standing (clearedFrom b labels v l 0 standing)
   cleared-taken standing long = record {
     long = cleared-length 0 standing;
-    gone = λ i h p q. at i h ∙ ap (λ (x : Bool). cond x 0 (getD standing i 0)) (decides-entry i .1 (p, q));
+    gone = λ i h e. at i h ∙ ap (λ (x : Bool). cond x 0 (getD standing i 0)) (decides-entry i .1 e);
     kept = λ i h d. at i h ∙ ap (λ (x : Bool). cond x 0 (getD standing i 0)) (is-false (decides-entry i) d);
   }
     where
@@ -195,14 +198,7 @@ module _ (b labels : List ℕ) (v l : ℕ) where
 
   pub left-kept : (standing : List ℕ) → removalOf b labels v l standing ≢ Done → leftOf b labels v l standing ≡ standing
   unfolding leftOf
-  left-kept standing h = go (removalOf b labels v l standing) h
-    where
-      go : (a : Removed) → a ≢ Done → whenDone a (clearedFrom b labels v l 0 standing) standing ≡ standing
-      go Done n = absurd (n refl)
-      go (Refused p) n = refl
-      go StandingBytes n = refl
-      go (NoEntry u m) n = refl
-      go (NotLoop u m r) n = refl
+  left-kept standing h = when-refused (removalOf b labels v l standing) h _ standing
 
   -- done: exactly the entries of the loop are gone
   pub done-leaves : (standing : List ℕ) → removalOf b labels v l standing ≡ Done

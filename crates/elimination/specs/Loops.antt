@@ -10,6 +10,7 @@ use Rattle.report.specs.declared.Removed.{Removed}
 use Rattle.report.specs.declared.Removed.the-variants.{Done, Refused, StandingBytes, NoEntry, NotLoop}
 use Rattle.chart.specs.Steps.{StandingOf}
 use Rattle.elimination.specs.Removals.{removedAs}
+use Rattle.elimination.specs.RemovalAnswers.{Fits, OpeningAnswer}
 
 -- a standing entry of the loop (v, l) leads to w
 abbrev pub EntryTargets : (b labels standing : List ℕ) (v l w : ℕ) → Type 0
@@ -25,6 +26,11 @@ pub data Broken (v : ℕ) (Entry : ℕ → Type 0) (Other : Edges) : ℕ → Typ
 -- the answer is the rule's
 abbrev pub Ruled : (b labels standing : List ℕ) (v l : ℕ) → Removed → Type 0
 Ruled b labels standing v l r = (a : Answer) × (r ≡ removedAs a) × Removes (StandingOf b labels standing) v l a
+
+-- 20, 21, 30 and 50: the refusal, or done where they pass
+pub data Opened (b labels standing : List ℕ) : Removed → Type 0 where
+  passed : Fits b labels standing → Opened b labels standing Done
+  refused : {a : Removed} → OpeningAnswer b labels standing a → Opened b labels standing a
 
 -- nothing is refused
 abbrev pub isDone : Removed → Bool

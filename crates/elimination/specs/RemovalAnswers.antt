@@ -24,19 +24,24 @@ pub record Fits (b labels standing : List ℕ) : Type 0 where
   pub each : length labels ≡ countOf b
   pub marked : StandingFits b standing
 
--- each answer, with its place
-pub data RemovalAnswer (b labels : List ℕ) (v l : ℕ) (standing : List ℕ) : Removed → Type 0 where
+-- the refusals of the chart, the labels and the standing bytes, each with its place
+pub data OpeningAnswer (b labels standing : List ℕ) : Removed → Type 0 where
   -- 20
-  other-header : ¬ HeaderFits b → RemovalAnswer b labels v l standing (Refused place.ChartHeader)
+  other-header : ¬ HeaderFits b → OpeningAnswer b labels standing (Refused place.ChartHeader)
   -- 21
   faulty-at : {p : ℕ} → HeaderFits b → Least (Faulty b) p
-      → RemovalAnswer b labels v l standing (Refused (place.Transition p))
+      → OpeningAnswer b labels standing (Refused (place.Transition p))
   -- 30
   other-length : WellFormed b → length labels ≢ countOf b
-      → RemovalAnswer b labels v l standing (Refused (place.LabelsLength (length labels)))
+      → OpeningAnswer b labels standing (Refused (place.LabelsLength (length labels)))
   -- 50
   other-standing : WellFormed b → length labels ≡ countOf b → ¬ StandingFits b standing
-      → RemovalAnswer b labels v l standing StandingBytes
+      → OpeningAnswer b labels standing StandingBytes
+
+-- each answer, with its place
+pub data RemovalAnswer (b labels : List ℕ) (v l : ℕ) (standing : List ℕ) : Removed → Type 0 where
+  -- 20, 21, 30 and 50
+  opening : {a : Removed} → OpeningAnswer b labels standing a → RemovalAnswer b labels v l standing a
   -- done, 51 or 52 by the rule
   ruled : {a : Answer} → Fits b labels standing → Removes (StandingOf b labels standing) v l a
       → RemovalAnswer b labels v l standing (removedAs a)

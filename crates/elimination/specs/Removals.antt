@@ -27,10 +27,10 @@ unfoldable pub standingTest : List ℕ → List ℕ → Bool
 standingTest b standing =
     eqb (length standing) (countOf b) && not (someBelow (λ i. ltb 1 (getD standing i 0)) (countOf b))
 
--- 20 and 21 first
-abbrev pub onChart : Stage → Removed → Removed
-onChart stage.Passed a = a
-onChart (stage.Refused place) a = Refused place
+-- 20 and 21 first; `told` says them in the answer of the call
+abbrev pub onChart : {A : Type 0} → Stage → (Removed → A) → A → A
+onChart stage.Passed told a = a
+onChart (stage.Refused place) told a = told (Refused place)
 
 -- one list where it is done, the other where it is refused
 abbrev pub whenDone : Removed → List ℕ → List ℕ → List ℕ
@@ -39,6 +39,14 @@ whenDone (Refused place) cleared kept = kept
 whenDone StandingBytes cleared kept = kept
 whenDone (NoEntry v l) cleared kept = kept
 whenDone (NotLoop v l r) cleared kept = kept
+
+-- 20, 21, 30 and 50 first
+abbrev pub onFits : {A : Type 0} → (b labels standing : List ℕ) → (Removed → A) → A → A
+onFits b labels standing told a =
+    onChart (checkOf b) told
+    (cond (eqb (length labels) (countOf b))
+    (cond (standingTest b standing) a (told StandingBytes))
+    (told (Refused (LabelsLength (length labels)))))
 
 module _ (b labels : List ℕ) where
   -- some transition with the label l that stands leads from u to w
@@ -52,11 +60,7 @@ module _ (b labels : List ℕ) where
 
   -- the answer to taking out (v, l): 20, 21, 30, 50, 51, 52
   unfoldable pub removalOf : ℕ → ℕ → List ℕ → Removed
-  removalOf v l standing =
-      onChart (checkOf b)
-      (cond (eqb (length labels) (countOf b))
-      (cond (standingTest b standing) (ruledOf v l standing) StandingBytes)
-      (Refused (LabelsLength (length labels))))
+  removalOf v l standing = onFits b labels standing (λ a. a) (ruledOf v l standing)
 
   -- the bytes of the transitions from i on, with 0 where one leaves v with the label l
   unfoldable pub clearedFrom : ℕ → ℕ → ℕ → List ℕ → List ℕ

@@ -1,13 +1,21 @@
-// Taking out a loop: the refusals 50 to 52, and the standing bytes after it.
+// Taking out a loop, or several together: the refusals 50 to 52, 56 and 57, and the standing bytes after it.
+mod loop_list;
 mod walk;
 
 use bits::Set;
 use bits::byte;
 use bits::highest_byte;
 use chart::range_of;
+use chart::sets::Span;
+use loop_list::list_fits;
+use loop_list::start_in;
 use report::Place;
 use report::Removed;
 use report::Stage;
+use report::Together;
+use walk::Found;
+use walk::stops_at;
+use walk::stops_fresh;
 use walk::walk;
 ghost use mathlib.Core.Path.{_≡_};
 ghost use mathlib.Core.Bool.{true};
@@ -15,14 +23,19 @@ ghost use mathlib.Core.List.{List};
 ghost use mathlib.Core.Logic.{_↔_};
 ghost use Prim.Native.Nat.{ℕ, _≤_, _<_};
 ghost use lib.ListN.{length};
-ghost use Rattle.bits.specs.Sets.{Has, Members};
+ghost use Rattle.theory.specs.Orders.{Listing};
+ghost use Rattle.bits.specs.Sets.{Members};
 ghost use Rattle.chart.specs.Bodies.{countOf};
 ghost use Rattle.chart.specs.Checks.{checkOf};
-ghost use Rattle.chart.specs.Steps.{Kept};
-ghost use Rattle.chart.specs.Standing.{TakenOut};
+ghost use Rattle.chart.specs.Leaving.{RangeOf, Begins};
+ghost use Rattle.chart.specs.Steps.{StandingOf};
+ghost use Rattle.chart.specs.Standing.{TakenOut, TakenOutOf};
 ghost use Rattle.elimination.specs.Removals.{removalOf, leftOf};
 ghost use Rattle.elimination.specs.RemovalAnswers.{StandingFits, Fits};
-ghost use Rattle.elimination.specs.Loops.{EntryTargets, Broken, Ruled, isDone};
+ghost use Rattle.elimination.specs.Together.{loopsOf, togetherOf, leftTogether};
+ghost use Rattle.elimination.specs.Loops.{EntryTargets, Ruled, Opened, isDone};
+ghost use Rattle.elimination.specs.Walks.{BrokenBy};
+ghost use Rattle.elimination.specs.LoopLists.{RulingOf, RuledTogether, isAllDone};
 
 // Whether 50 passes: n bytes, each 0 or 1.
 fn standing_fits(standing: &[u8], n: usize) -> bool
@@ -31,17 +44,16 @@ fn standing_fits(standing: &[u8], n: usize) -> bool
     (standing.len() == n) & (highest_byte(standing) <= 1)
 }
 
-// What the standing entries of the loop (v, level) lead to; where there is none, nothing.
-fn entry_targets(chart: &[u8], labels: &[u8], v: usize, level: usize, standing: &[u8]) -> Set
-    requires { ⌜ Fits (now chart) (now labels) (now standing) ⌝ }
-    ensures { λ r. ⌜ Members
-        (EntryTargets (now (chart .entry)) (now (labels .entry)) (now (standing .entry)) v level) r ⌝ }
+// What the standing entries of a level lead to that are in the range of a vertex; where there is none, nothing.
+fn entry_targets(chart: &[u8], labels: &[u8], level: usize, range: Span, standing: &[u8]) -> Set
+    requires { ⌜ Fits (now chart) (now labels) (now standing) × (range .to ≤ countOf (now chart)) ⌝ }
+    ensures { λ r. ⌜ ((v : ℕ) → RangeOf (now (chart .entry)) v range → Members
+        (EntryTargets (now (chart .entry)) (now (labels .entry)) (now (standing .entry)) v level) r) ⌝ }
 {
     let mut set = Set::empty();
     if level == 0 {
         return set;
     }
-    let range = range_of(chart, v);
     let end = range.to;
     let mut i = range.from;
     while i < end {
@@ -52,18 +64,15 @@ fn entry_targets(chart: &[u8], labels: &[u8], v: usize, level: usize, standing: 
     set
 }
 
-// The first of L1, L2, L3 that the chart of a loop at v breaks, or 0: its entries lead to the targets, and all else goes
-// by what stands.
-fn broken(chart: &[u8], standing: &[u8], v: usize, targets: Set) -> usize
-    requires { ⌜ (checkOf (now chart) ≡ Stage.Passed) × (countOf (now chart) ≤ length (now standing)) × (v < 128) ⌝ }
-    ensures { λ r. ⌜ Broken v (Has targets) (Kept (now (chart .entry)) (now (standing .entry))) r ⌝ }
+// The first of L1, L2, L3 that the chart of a loop breaks, or 0, by what is found of it.
+fn broken(found: Found) -> usize
+    ensures { λ r. ⌜ BrokenBy found r ⌝ }
 {
-    let found = walk(chart, standing, v, targets);
     if found.stray {
         return 2;
     }
     let body = found.body;
-    if !body.contains(v) {
+    if body.intersection(found.back).is_empty() {
         return 1;
     }
     if body.contains(0) {
@@ -77,20 +86,35 @@ fn ruled(chart: &[u8], labels: &[u8], vertex: usize, level: usize, standing: &[u
     requires { ⌜ Fits (now chart) (now labels) (now standing) ⌝ }
     ensures { λ r. ⌜ Ruled (now (chart .entry)) (now (labels .entry)) (now (standing .entry)) vertex level r ⌝ }
 {
-    let targets = entry_targets(chart, labels, vertex, level, standing);
+    let range = range_of(chart, vertex);
+    let targets = entry_targets(chart, labels, level, range, standing);
     if targets.is_empty() {
         return Removed::NoEntry(vertex, level);
     }
-    let r = broken(chart, standing, vertex, targets);
+    let begins = chart::begins(chart);
+    let mut next = [0u64; 256];
+    let stops = stops_fresh(vertex);
+    let found = walk(
+        chart,
+        standing,
+        &begins,
+        vertex,
+        targets,
+        Set::empty(),
+        stops.past,
+        stops.back,
+        &mut next,
+    );
+    let r = broken(found);
     if r == 0 {
         return Removed::Done;
     }
     Removed::NotLoop(vertex, level, r)
 }
 
-// The answer to taking out (vertex, level): 20, 21, 30, 50, 51, 52.
-fn answer(chart: &[u8], labels: &[u8], vertex: usize, level: usize, standing: &[u8]) -> Removed
-    ensures { λ r. ⌜ r ≡ removalOf (now (chart .entry)) (now (labels .entry)) vertex level (now (standing .entry)) ⌝ }
+// 20, 21, 30 and 50, or done where they pass.
+fn opening(chart: &[u8], labels: &[u8], standing: &[u8]) -> Removed
+    ensures { λ r. ⌜ Opened (now (chart .entry)) (now (labels .entry)) (now (standing .entry)) r ⌝ }
 {
     let checked = chart::check(chart);
     match checked {
@@ -106,7 +130,7 @@ fn answer(chart: &[u8], labels: &[u8], vertex: usize, level: usize, standing: &[
     if !standing_fits(standing, n) {
         return Removed::StandingBytes;
     }
-    ruled(chart, labels, vertex, level, standing)
+    Removed::Done
 }
 
 fn is_done(removed: Removed) -> bool
@@ -119,6 +143,17 @@ fn is_done(removed: Removed) -> bool
         Removed::NoEntry(_, _) => false,
         Removed::NotLoop(_, _, _) => false,
     }
+}
+
+// The answer to taking out (vertex, level): 20, 21, 30, 50, 51, 52.
+fn answer(chart: &[u8], labels: &[u8], vertex: usize, level: usize, standing: &[u8]) -> Removed
+    ensures { λ r. ⌜ r ≡ removalOf (now (chart .entry)) (now (labels .entry)) vertex level (now (standing .entry)) ⌝ }
+{
+    let opened = opening(chart, labels, standing);
+    if !is_done(opened) {
+        return opened;
+    }
+    ruled(chart, labels, vertex, level, standing)
 }
 
 // The byte, or 0 where the label is of this level.
@@ -159,6 +194,166 @@ pub fn remove(
     let said = answer(chart, labels, vertex, level, standing);
     if is_done(said) {
         clear(chart, labels, vertex, level, standing);
+    }
+    said
+}
+
+// The range of v's transitions, by where those of each vertex begin.
+fn range_by(chart: &[u8], begins: &[usize; 129], v: usize) -> Span
+    requires { ⌜ (checkOf (now chart) ≡ Stage.Passed) × Begins (now chart) (now begins) ⌝ }
+    ensures { λ r. ⌜ RangeOf (now (chart .entry)) v r ⌝ }
+{
+    if v >= 128 {
+        return range_of(chart, v);
+    }
+    Span {
+        from: begins[v],
+        to: begins[v + 1],
+    }
+}
+
+// What is said of the loops of a list one by one, and where each goes, what is in their bodies.
+struct Ruling {
+    said: Removed,
+    bodies: Set,
+}
+
+// 51 and 52 of the loops of a list in its order, all over what stands, where the checks before them pass. The
+// walks read the transitions of a vertex once for all loops, and what the walk of one loop has settled serves that of the
+// next.
+fn ruled_together(chart: &[u8], labels: &[u8], loops: &[u8], standing: &[u8]) -> Ruling
+    requires { ⌜ Fits (now chart) (now labels) (now standing) × (length (now loops) ≤ 128) ⌝ }
+    ensures { λ r. ⌜ RulingOf (StandingOf (now (chart .entry)) (now (labels .entry)) (now (standing .entry)))
+        (loopsOf (now (loops .entry))) r ⌝ }
+{
+    let n = loops.len() / 2;
+    let begins = chart::begins(chart);
+    let mut next = [0u64; 256];
+    let mut read = Set::empty();
+    let mut bodies = Set::empty();
+    // no loop starts at the end
+    let mut last: usize = 0;
+    let none = stops_fresh(0);
+    let mut past = none.past;
+    let mut back = none.back;
+    let mut i: usize = 0;
+    while i < n {
+        let v = byte(loops, 2 * i);
+        let level = byte(loops, 2 * i + 1);
+        let range = range_by(chart, &begins, v);
+        let targets = entry_targets(chart, labels, level, range, standing);
+        if targets.is_empty() {
+            return Ruling {
+                said: Removed::NoEntry(v, level),
+                bodies,
+            };
+        }
+        let stops = stops_at(v, last, past, back);
+        let found = walk(
+            chart,
+            standing,
+            &begins,
+            v,
+            targets,
+            read,
+            stops.past,
+            stops.back,
+            &mut next,
+        );
+        let r = broken(found);
+        if r != 0 {
+            return Ruling {
+                said: Removed::NotLoop(v, level, r),
+                bodies,
+            };
+        }
+        read = found.read;
+        past = found.past;
+        back = found.back;
+        last = v;
+        bodies = bodies.union(found.body.without(v));
+        i += 1;
+    }
+    Ruling {
+        said: Removed::Done,
+        bodies,
+    }
+}
+
+// 51, 52 and 57, where the checks before them pass.
+fn group(chart: &[u8], labels: &[u8], loops: &[u8], standing: &[u8]) -> Together
+    requires { ⌜ Fits (now chart) (now labels) (now standing) × (length (now loops) ≤ 128) ⌝ }
+    ensures { λ r. ⌜ RuledTogether (now (chart .entry)) (now (labels .entry)) (now (loops .entry))
+        (now (standing .entry)) r ⌝ }
+{
+    let ruling = ruled_together(chart, labels, loops, standing);
+    let said = ruling.said;
+    if !is_done(said) {
+        return Together::Removal(said);
+    }
+    let p = start_in(loops, ruling.bodies);
+    if p < loops.len() / 2 {
+        return Together::StartInside(p);
+    }
+    Together::Removal(Removed::Done)
+}
+
+// The answer to taking out the loops of a list: 20, 21, 30, 50, 56, 51, 52, 57.
+fn answer_together(chart: &[u8], labels: &[u8], loops: &[u8], standing: &[u8]) -> Together
+    ensures { λ r. ⌜ r
+        ≡ togetherOf (now (chart .entry)) (now (labels .entry)) (now (loops .entry)) (now (standing .entry)) ⌝ }
+{
+    let opened = opening(chart, labels, standing);
+    if !is_done(opened) {
+        return Together::Removal(opened);
+    }
+    if !list_fits(loops) {
+        return Together::LoopList;
+    }
+    group(chart, labels, loops, standing)
+}
+
+fn is_all_done(together: Together) -> bool
+    ensures { λ r. ⌜ r ≡ isAllDone together ⌝ }
+{
+    match together {
+        Together::Removal(removed) => is_done(removed),
+        Together::LoopList => false,
+        Together::StartInside(_) => false,
+    }
+}
+
+// The standing bytes of the entries of all loops of a list become 0.
+fn clear_all(chart: &[u8], labels: &[u8], loops: &[u8], standing: &mut [u8])
+    requires { ⌜ Fits (now chart) (now labels) (now standing) ⌝ }
+    ensures { λ _. ⌜ TakenOutOf (now (chart .entry)) (now (labels .entry)) (Listing (loopsOf (now (loops .entry))))
+        (now (standing .entry)) (now (standing .exit)) ⌝ }
+{
+    let n = loops.len() / 2;
+    let mut i: usize = 0;
+    while i < n {
+        clear(
+            chart,
+            labels,
+            byte(loops, 2 * i),
+            byte(loops, 2 * i + 1),
+            standing,
+        );
+        i += 1;
+    }
+}
+
+// Takes out the loops of a list together, two bytes a loop, its start and its level: the bytes of all their entries
+// become 0. A refusal changes none.
+pub fn remove_together(chart: &[u8], labels: &[u8], loops: &[u8], standing: &mut [u8]) -> Together
+    ensures { λ r. ⌜ (r
+        ≡ togetherOf (now (chart .entry)) (now (labels .entry)) (now (loops .entry)) (now (standing .entry)))
+        × (now (standing .exit)
+        ≡ leftTogether (now (chart .entry)) (now (labels .entry)) (now (loops .entry)) (now (standing .entry))) ⌝ }
+{
+    let said = answer_together(chart, labels, loops, standing);
+    if is_all_done(said) {
+        clear_all(chart, labels, loops, standing);
     }
     said
 }

@@ -5,6 +5,7 @@ use bits::tables::row;
 use chart::kept_row;
 use report::Stage;
 ghost use mathlib.Core.Path.{_≡_};
+ghost use mathlib.Core.Logic.{_↔_};
 ghost use Prim.Native.Nat.{ℕ, _≤_, _<_};
 ghost use lib.ListN.{length, getD};
 ghost use Rattle.bits.specs.Sets.{Has, Members};
@@ -12,12 +13,53 @@ ghost use Rattle.chart.specs.Bodies.{countOf};
 ghost use Rattle.chart.specs.Checks.{checkOf};
 ghost use Rattle.chart.specs.Leaving.{Begins};
 ghost use Rattle.chart.specs.Steps.{Kept};
-ghost use Rattle.elimination.specs.Walks.{RowsOf, RowRead, Onward, FoundIn};
+ghost use Rattle.elimination.specs.Walks.{RowsOf, RowRead, Onward, Settled, FoundIn, StopsAt};
 
-// Whether a cycle aside of the loop's start is reached, and where none is, the body.
+// The vertices that are past, for walks that stop at a vertex, and those of them that lead to it.
+pub struct Stops {
+    pub past: Set,
+    pub back: Set,
+}
+
+// Whether a cycle aside of the loop's start is reached, and where none is, of the body all that was not past; the
+// vertices that are past now, and those of them that lead to the start; and the vertices whose transitions are in the
+// table.
 pub struct Found {
     pub stray: bool,
     pub body: Set,
+    pub past: Set,
+    pub back: Set,
+    pub read: Set,
+}
+
+// At first v alone is past.
+pub(crate) fn stops_fresh(v: usize) -> Stops
+    requires { ⌜ v < 128 ⌝ }
+    ensures { λ r. ⌜ ((y : ℕ) → Has (r .past) y ↔ (y ≡ v)) × ((y : ℕ) → Has (r .back) y ↔ (y ≡ v)) ⌝ }
+{
+    let own = Set::empty().with(v);
+    Stops {
+        past: own,
+        back: own,
+    }
+}
+
+// What stays past when walks stop at v and no longer at `last`.
+pub(crate) fn stops_at(v: usize, last: usize, past: Set, back: Set) -> Stops
+    requires { ⌜ v < 128 ⌝ }
+    ensures { λ r. ⌜ StopsAt v last past back r ⌝ }
+{
+    if v == last {
+        return Stops { past, back };
+    }
+    let rest = past.difference(back);
+    if rest.contains(v) {
+        return stops_fresh(v);
+    }
+    Stops {
+        past: rest.with(v),
+        back: Set::empty().with(v),
+    }
 }
 
 // The standing transitions of w come into its set of the table, unless they were read before.
@@ -60,33 +102,63 @@ fn onward(next: &[u64; 256], path: &[usize; 130], depth: usize, targets: Set, pa
 
 // Goes through the chart of a loop at v whose entries lead to the targets: forward to any vertex that is not past; one
 // that leads to none of these is past from then on, and the path goes back by one vertex. A path of 129 vertices has
-// one of them twice. v is past from the beginning.
-pub(crate) fn walk(chart: &[u8], standing: &[u8], v: usize, targets: Set) -> Found
-    requires { ⌜ (checkOf (now chart) ≡ Stage.Passed) × (countOf (now chart) ≤ length (now standing)) × (v < 128) ⌝ }
-    ensures { λ r. ⌜ FoundIn v (Has targets) (Kept (now (chart .entry)) (now (standing .entry))) r ⌝ }
+// one of them twice. The table has the transitions of the vertices of `read`, and gets those of the vertices that the
+// walk comes to.
+pub(crate) fn walk(
+    chart: &[u8],
+    standing: &[u8],
+    begins: &[usize; 129],
+    v: usize,
+    targets: Set,
+    read: Set,
+    past: Set,
+    back: Set,
+    next: &mut [u64; 256],
+) -> Found
+    requires { ⌜ (checkOf (now chart) ≡ Stage.Passed)
+        × (countOf (now chart) ≤ length (now standing))
+        × Begins (now chart) (now begins)
+        × Settled v (Kept (now chart) (now standing)) past back
+        × RowsOf (Kept (now chart) (now standing)) read (now next) ⌝ }
+    ensures { λ r. ⌜ FoundIn v (Has targets) (Kept (now (chart .entry)) (now (standing .entry))) past r
+        × RowsOf (Kept (now (chart .entry)) (now (standing .entry))) (r .read) (now (next .exit)) ⌝ }
 {
-    let begins = chart::begins(chart);
-    let mut next = [0u64; 256];
-    let mut read = Set::empty();
-    let mut past = Set::empty().with(v);
+    let mut read = read;
+    let mut past = past;
+    let mut back = back;
     let mut body = targets;
     let mut path = [0usize; 130];
     let mut depth: usize = 0;
     while depth < 129 {
-        let w = onward(&next, &path, depth, targets, past).lowest();
+        let w = onward(next, &path, depth, targets, past).lowest();
         if w < 128 {
-            read_row(chart, standing, &begins, w, read, &mut next);
+            read_row(chart, standing, begins, w, read, next);
             read = read.with(w);
-            body = body.union(row(&next, w));
+            body = body.union(row(next, w));
             depth += 1;
             path[depth] = w;
         } else {
             if depth == 0 {
-                return Found { stray: false, body };
+                return Found {
+                    stray: false,
+                    body,
+                    past,
+                    back,
+                    read,
+                };
             }
-            past = past.with(path[depth]);
+            let left = path[depth];
+            let leads = row(next, left).intersection(back);
+            back = back.with_if(left, !leads.is_empty());
+            past = past.with(left);
             depth -= 1;
         }
     }
-    Found { stray: true, body }
+    Found {
+        stray: true,
+        body,
+        past,
+        back,
+        read,
+    }
 }
