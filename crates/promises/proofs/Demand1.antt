@@ -43,7 +43,7 @@ use Rattle.bisimulation.specs.RelationAnswers.{RelationAnswer}
 use Rattle.bisimulation.specs.RelationAnswers as relation
 use Rattle.bisimulation.proofs.Relations.{relation-says}
 use Rattle.elimination.specs.Removals.{removedAs, removalOf, leftOf}
-use Rattle.elimination.specs.RemovalAnswers.{Fits, RemovalAnswer, other-header, faulty-at, other-length, other-standing, ruled}
+use Rattle.elimination.specs.RemovalAnswers.{Fits, other-header, faulty-at, other-length, other-standing, RemovalAnswer, opening, ruled}
 use Rattle.elimination.proofs.Removals.{removal-says, done-leaves, left-kept}
 use Rattle.verdict.specs.Files.{recordsOf, Whole, RecordsChecked, too-long, cut-header, other-kind, cut-body, bytes-after}
 use Rattle.verdict.specs.Verdicts.{nodesIn, chartIn, labelsIn, relationIn, verdictOf, Fails, records-fail, nodes-fail, chart-fails, labels-fail, relation-fails}
@@ -290,16 +290,16 @@ module _ (b labels : List ℕ) (bytes : Bytes labels) (v l : ℕ) (standing : Li
   removal-answers : {n p q r : ℕ} → RemovalSentence b labels v l standing n p q r
       → removedNumbers (removalOf b labels v l standing) ≡ four n p q r
   removal-answers (removed-0 s c) = by-rule s (Removes.goes (s .entry) c)
-  removal-answers (removed-20 h) = answered (other-header h)
-  removal-answers (removed-21 h f) = answered (faulty-at h f)
-  removal-answers (removed-30 W h) = answered (other-length W h)
-  removal-answers (removed-50 W h n) = answered (other-standing W h n)
+  removal-answers (removed-20 h) = answered (opening (other-header h))
+  removal-answers (removed-21 h f) = answered (opening (faulty-at h f))
+  removal-answers (removed-30 W h) = answered (opening (other-length W h))
+  removal-answers (removed-50 W h n) = answered (opening (other-standing W h n))
   removal-answers (removed-51 f h) = answered (ruled f (Removes.absent h))
   removal-answers (removed-52-1 s h) = by-rule s (Removes.breaks-L1 (s .entry) h)
   removal-answers (removed-52-2 s p h) = by-rule s (Removes.breaks-L2 (s .entry) p h)
   removal-answers (removed-52-3 s p c e) = by-rule s (Removes.breaks-L3 (s .entry) p c e)
 
-  rule-says : {a : Answer} → Fits b labels standing → Removes (StandingOf b labels standing) v l a
+  pub rule-says : {a : Answer} → Fits b labels standing → Removes (StandingOf b labels standing) v l a
       → RemovalSentenceFor b labels v l standing (removedNumbers (removedAs a))
   rule-says f (Removes.absent h) = removed-51 f h
   rule-says f (Removes.goes o c) = removed-0 (record { fits = f; entry = o }) c
@@ -309,10 +309,10 @@ module _ (b labels : List ℕ) (bytes : Bytes labels) (v l : ℕ) (standing : Li
 
   answer-sentence : {a : Removed} → RemovalAnswer b labels v l standing a
       → RemovalSentenceFor b labels v l standing (removedNumbers a)
-  answer-sentence (other-header h) = removed-20 h
-  answer-sentence (faulty-at h f) = removed-21 h f
-  answer-sentence (other-length W h) = removed-30 W h
-  answer-sentence (other-standing W h n) = removed-50 W h n
+  answer-sentence (opening (other-header h)) = removed-20 h
+  answer-sentence (opening (faulty-at h f)) = removed-21 h f
+  answer-sentence (opening (other-length W h)) = removed-30 W h
+  answer-sentence (opening (other-standing W h n)) = removed-50 W h n
   answer-sentence (ruled f r) = rule-says f r
 
   -- IT ANSWERS n p q r exactly where the sentence for n holds with these places

@@ -123,7 +123,7 @@ gives {b} {cs} {xs} W one = record {
 
 -- OF ANY ACCEPTED FILE
 module _ (f : List ℕ) (bytes : Bytes f) {v t l : ℕ} (accepted : verdictOf f ≡ Accepted v t l) where
-  passing : Passing (chartIn f) (labelsIn f)
+  pub passing : Passing (chartIn f) (labelsIn f)
   passing =
       let (r, n, c, p, q, v′, t′) = accepted-iff f v t l .0 accepted in
       let B = part-bytes f 2 bytes in

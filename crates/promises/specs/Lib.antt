@@ -5,5 +5,6 @@ pub mod Demand2
 pub mod Demand3
 -- what an accepted file is
 pub mod Accepted
--- document 02: the shortest way
+-- document 02: the shortest way, and several loops out together
 pub mod ShortestWay
+pub mod LoopsTogether
