@@ -2,8 +2,8 @@
  *
  * A slice is two arguments, a pointer and then its length in bytes; NULL with length 0 is an empty
  * slice. The slices of one call must not overlap. Whatever the bytes are, a call answers; it keeps no
- * pointer and no state, allocates nothing, and needs memcpy and memset and less than 128 KiB of
- * stack, seq_remove, seq_restart, seq_event and seq_shortest_way less than 32 KiB. */
+ * pointer and no state, allocates nothing, and needs memcpy and memset. seq_check and seq_write_chart
+ * need less than 128 KiB of stack, the others less than 32 KiB. */
 #ifndef SEQUENCE_H
 #define SEQUENCE_H
 
@@ -14,8 +14,8 @@
 extern "C" {
 #endif
 
-/* n is document 01's number of a refusal and p, q, r its places, unused ones 0. Where nothing is
- * refused n is 0 and p, q, r are what the call says below. */
+/* n is the number of a refusal, as documents 01 and 02 have it, and p, q, r its places, unused ones 0.
+ * Where nothing is refused n is 0 and p, q, r are what the call says below. */
 typedef struct seq_numbers {
     uint64_t n;
     uint64_t p;
@@ -29,6 +29,9 @@ typedef struct seq_numbers {
 
 /* The length of a follower's state, in bytes. */
 #define SEQ_STATE 16
+
+/* The most loops that seq_remove_together takes out. */
+#define SEQ_MOST_LOOPS 64
 
 /* The longest list of events that seq_shortest_way writes. */
 #define SEQ_LONGEST_WAY 127
@@ -62,6 +65,22 @@ seq_numbers seq_write_chart(const uint8_t *nodes, size_t nodes_len, uint8_t *out
  * The chart and the labels are only read. */
 seq_numbers seq_remove(const uint8_t *chart, size_t chart_len, const uint8_t *labels, size_t labels_len,
                        size_t vertex, size_t level, uint8_t *standing, size_t standing_len);
+
+/* Takes out several loops together. loops is a list of them, two bytes each, the vertex and then the
+ * level. chart, labels and standing are as for seq_remove.
+ *
+ * Done: n 0, p, q and r 0. The bytes of the entries of all these loops are 0, all others of standing are
+ * kept: what seq_remove leaves that takes out one after the other, in whatever order. An empty list
+ * changes no byte.
+ * Refused: n 20, 21, 30 and 50 as for seq_remove; n 56 where loops has an odd length, more than
+ * SEQ_MOST_LOOPS loops, or one of them twice; n 51 or 52 as for seq_remove, of the first loop of the list
+ * that it would refuse before any of them is taken out; n 57 where one starts inside another, p its place
+ * in the list, from 0, the lowest of them. Inside a loop is what its entries lead to, followed by all that
+ * stands, but not beyond its own vertex; this is not inside, so several loops may start there. No byte of
+ * standing is changed.
+ * The chart, the labels and the list are only read. */
+seq_numbers seq_remove_together(const uint8_t *chart, size_t chart_len, const uint8_t *labels, size_t labels_len,
+                                const uint8_t *loops, size_t loops_len, uint8_t *standing, size_t standing_len);
 
 /* A follower of events. chart is the body of a record of kind 2, or what seq_write_chart has written.
  * state is SEQ_STATE bytes, a set of its vertices: vertex v is in it where byte v / 8 has the bit worth

@@ -1,6 +1,6 @@
 /* Runs the C library: document 01's starred cases of the check, of the expression's chart, of the
- * removal and of the follower, shortest ways, empty slices, the limits, and lent buffers of each length
- * that matters.
+ * removal and of the follower, loops taken out together, shortest ways, empty slices, the limits, and
+ * lent buffers of each length that matters.
  * Prints what is wrong and, last, the count of cases; exits with 1 where something is wrong. */
 #define _DEFAULT_SOURCE
 #include "sequence.h"
@@ -19,6 +19,7 @@ static unsigned wrong;
 
 static uint8_t *file_end;
 static uint8_t *labels_end;
+static uint8_t *loops_end;
 static uint8_t *out_end;
 
 static uint8_t *end_of_memory(size_t longest)
@@ -247,8 +248,9 @@ static void empty_slices(void)
     static const uint8_t no_transition[4] = {2, 1, 0, 0};
     static const uint8_t at_end[SEQ_STATE] = {1};
     static const uint8_t at_start[SEQ_STATE] = {8};
+    uint8_t standing[2] = {1, 1};
     uint8_t byte = 0xAB;
-    cases += 21;
+    cases += 28;
     expect_numbers("no file", seq_check(NULL, 0), numbers(2, 1, 0, 0));
     expect_numbers("a file of no bytes", seq_check(&byte, 0), numbers(2, 1, 0, 0));
     expect_numbers("no nodes, no output", seq_write_chart(NULL, 0, NULL, 0), numbers(10, 0, 0, 0));
@@ -261,6 +263,20 @@ static void empty_slices(void)
     expect_numbers("no transition", seq_remove(no_transition, 4, NULL, 0, 1, 1, NULL, 0), numbers(51, 1, 1, 0));
     expect_numbers("no transition, a standing byte", seq_remove(no_transition, 4, NULL, 0, 1, 1, &byte, 1),
                    numbers(50, 0, 0, 0));
+    expect_numbers("no chart, no loops", seq_remove_together(NULL, 0, NULL, 0, NULL, 0, NULL, 0), numbers(20, 0, 0, 0));
+    expect_numbers("no labels, no loops", seq_remove_together(G_CHART, 20, NULL, 0, NULL, 0, NULL, 0),
+                   numbers(30, 0, 0, 0));
+    expect_numbers("no standing bytes, no loops", seq_remove_together(G_CHART, 20, G_CHART, 4, NULL, 0, NULL, 0),
+                   numbers(50, 0, 0, 0));
+    expect_numbers("no transition, no loops", seq_remove_together(no_transition, 4, NULL, 0, NULL, 0, NULL, 0),
+                   numbers(0, 0, 0, 0));
+    expect_numbers("no loops", seq_remove_together(G + 20, 12, G + G_LABELS, 2, NULL, 0, standing, 2),
+                   numbers(0, 0, 0, 0));
+    expect_numbers("a list of no bytes", seq_remove_together(G + 20, 12, G + G_LABELS, 2, &byte, 0, standing, 2),
+                   numbers(0, 0, 0, 0));
+    expect_bytes("lent with no loops", standing, (uint8_t[]){1, 1}, 2);
+    expect_numbers("no transition, a loop", seq_remove_together(no_transition, 4, NULL, 0, at_end, 2, NULL, 0),
+                   numbers(51, 1, 0, 0));
     expect_numbers("no chart to restart", seq_restart(NULL, 0, NULL, 0), numbers(20, 0, 0, 0));
     expect_numbers("no chart for an event", seq_event(NULL, 0, NULL, 0, 1), numbers(20, 0, 0, 0));
     expect_numbers("no state to restart", seq_restart(G_CHART, 20, NULL, 0), numbers(53, 0, 0, 0));
@@ -469,22 +485,37 @@ typedef struct removal {
     body standing;
 } removal;
 
-/* One call, whose answer and every lent byte are held to what is wanted; without `left` the standing
- * bytes are to be kept. The next call of a list goes on with what this one left. */
+/* Lends the three slices, before a call on them. */
+static void lend_removal(const removal *lent)
+{
+    copy_before(file_end, lent->chart.bytes, lent->chart.len);
+    copy_before(labels_end, lent->labels.bytes, lent->labels.len);
+    copy_before(out_end, lent->standing.bytes, lent->standing.len);
+}
+
+/* After it, every lent byte is held to what is wanted; without `left` the standing bytes are to be kept.
+ * The next call goes on with what this one left. */
+static void expect_left(const char *name, removal *lent, const uint8_t *left)
+{
+    size_t len = lent->standing.len;
+    expect_bytes(name, file_end - lent->chart.len, lent->chart.bytes, lent->chart.len);
+    expect_bytes(name, labels_end - lent->labels.len, lent->labels.bytes, lent->labels.len);
+    expect_bytes(name, out_end - len, left ? left : lent->standing.bytes, len);
+    memcpy(lent->standing.bytes, out_end - len, len);
+}
+
 static void expect_remove(const char *name, removal *lent, size_t vertex, size_t level, seq_numbers want,
                           const uint8_t *left)
 {
+    size_t chart = lent->chart.len;
+    size_t labels = lent->labels.len;
     size_t len = lent->standing.len;
-    const uint8_t *chart = copy_before(file_end, lent->chart.bytes, lent->chart.len);
-    const uint8_t *labels = copy_before(labels_end, lent->labels.bytes, lent->labels.len);
-    uint8_t *standing = copy_before(out_end, lent->standing.bytes, len);
+    lend_removal(lent);
     cases++;
-    expect_numbers(name, seq_remove(chart, lent->chart.len, labels, lent->labels.len, vertex, level, standing, len),
+    expect_numbers(name,
+                   seq_remove(file_end - chart, chart, labels_end - labels, labels, vertex, level, out_end - len, len),
                    want);
-    expect_bytes(name, chart, lent->chart.bytes, lent->chart.len);
-    expect_bytes(name, labels, lent->labels.bytes, lent->labels.len);
-    expect_bytes(name, standing, left ? left : lent->standing.bytes, len);
-    memcpy(lent->standing.bytes, standing, len);
+    expect_left(name, lent, left);
 }
 
 /* The chart of two loops, all standing. */
@@ -615,6 +646,319 @@ static void all_loops_of_the_full_chart(void)
     expect_bytes("branches are left", lent.standing.bytes, left, sizeof left);
     lent.standing.bytes[8191] = 2;
     expect_remove("last byte 2", &lent, 1, 1, numbers(50, 0, 0, 0), NULL);
+}
+
+/* Several loops together. */
+
+static const seq_numbers DONE = {0, 0, 0, 0};
+static const seq_numbers NO_LIST = {56, 0, 0, 0};
+
+/* Where a list is done, each of its loops goes singly too, first to last and last to first, and the same
+ * bytes are left. */
+static void expect_singly(const char *name, const removal *lent, const uint8_t *loops, size_t len,
+                          const uint8_t *left)
+{
+    static removal run;
+    for (int backward = 0; backward < 2; backward++) {
+        run = *lent;
+        for (size_t at = 0; at < len; at += 2) {
+            const uint8_t *loop = loops + (backward ? len - 2 - at : at);
+            expect_numbers(name,
+                           seq_remove(run.chart.bytes, run.chart.len, run.labels.bytes, run.labels.len, loop[0],
+                                      loop[1], run.standing.bytes, run.standing.len),
+                           DONE);
+        }
+        expect_bytes(name, run.standing.bytes, left ? left : lent->standing.bytes, run.standing.len);
+    }
+}
+
+/* One call on a list of so many bytes. */
+static void expect_together(const char *name, removal *lent, const uint8_t *loops, size_t loops_len,
+                            seq_numbers want, const uint8_t *left)
+{
+    size_t chart = lent->chart.len;
+    size_t labels = lent->labels.len;
+    size_t len = lent->standing.len;
+    const uint8_t *list = copy_before(loops_end, loops, loops_len);
+    if (want.n == 0)
+        expect_singly(name, lent, loops, loops_len, left);
+    lend_removal(lent);
+    cases++;
+    expect_numbers(name,
+                   seq_remove_together(file_end - chart, chart, labels_end - labels, labels, list, loops_len,
+                                       out_end - len, len),
+                   want);
+    expect_bytes(name, list, loops, loops_len);
+    expect_left(name, lent, left);
+}
+
+/* 51 and 52 are asked of each loop in the list's order, by what stands at the beginning. */
+static void one_loop_inside_the_other(void)
+{
+    static removal lent;
+    two_loops(&lent, TWO_LEVELS);
+    expect_together("no loop", &lent, (uint8_t[]){0}, 0, DONE, NULL);
+    expect_together("outer", &lent, (uint8_t[]){1, 2}, 2, numbers(52, 1, 2, 2), NULL);
+    expect_together("inner, outer", &lent, (uint8_t[]){2, 1, 1, 2}, 4, numbers(52, 1, 2, 2), NULL);
+    expect_together("outer, inner", &lent, (uint8_t[]){1, 2, 2, 1}, 4, numbers(52, 1, 2, 2), NULL);
+    expect_together("inner, none", &lent, (uint8_t[]){2, 1, 2, 2}, 4, numbers(51, 2, 2, 0), NULL);
+    expect_together("outer, none", &lent, (uint8_t[]){1, 2, 2, 2}, 4, numbers(52, 1, 2, 2), NULL);
+    expect_together("none, outer", &lent, (uint8_t[]){2, 2, 1, 2}, 4, numbers(51, 2, 2, 0), NULL);
+    expect_together("none, none", &lent, (uint8_t[]){255, 254, 0, 0}, 4, numbers(51, 255, 254, 0), NULL);
+    expect_together("level 0", &lent, (uint8_t[]){2, 1, 2, 0}, 4, numbers(51, 2, 0, 0), NULL);
+    expect_together("inner", &lent, (uint8_t[]){2, 1}, 2, DONE, (uint8_t[]){1, 1, 0, 1});
+    expect_together("outer, inner again", &lent, (uint8_t[]){1, 2, 2, 1}, 4, numbers(51, 2, 1, 0), NULL);
+    expect_together("then outer", &lent, (uint8_t[]){1, 2}, 2, DONE, (uint8_t[]){0, 1, 0, 1});
+    expect_together("no loop, none left", &lent, (uint8_t[]){0}, 0, DONE, NULL);
+}
+
+/* V 128, T 254: each vertex goes to itself, an entry of level 1, and down to the next. Transition
+ * 2 v - 2 is the entry of v. */
+static void put_line_of_loops(removal *lent)
+{
+    lent->chart.len = 0;
+    lent->labels.len = 0;
+    lent->standing.len = 254;
+    memset(lent->standing.bytes, 1, 254);
+    put_four(&lent->chart, 128, 127, 254, 0);
+    for (unsigned v = 1; v < 128; v++) {
+        put_four(&lent->chart, v, 1, v, 0);
+        put_four(&lent->chart, v, 2, v - 1, 0);
+        put(&lent->labels, 1);
+        put(&lent->labels, 0);
+    }
+}
+
+/* So many loops of that line, 126 at most, in an order that goes to and fro. */
+static void put_loops(body *loops, size_t count)
+{
+    loops->len = 0;
+    for (size_t k = 1; k <= count; k++) {
+        put(loops, (uint8_t)(k * 29 % 127 + 1));
+        put(loops, 1);
+    }
+}
+
+static void loops_of_a_line(void)
+{
+    static removal lent;
+    static body loops;
+    uint8_t left[254];
+    for (size_t count = 0; count <= SEQ_MOST_LOOPS; count++) {
+        put_line_of_loops(&lent);
+        put_loops(&loops, count);
+        memset(left, 1, sizeof left);
+        for (size_t at = 0; at < loops.len; at += 2)
+            left[2 * loops.bytes[at] - 2] = 0;
+        expect_together("up to 64 loops", &lent, loops.bytes, loops.len, DONE, left);
+        if (count > 0)
+            expect_together("the same again", &lent, loops.bytes, loops.len, numbers(51, loops.bytes[0], 1, 0), NULL);
+    }
+}
+
+/* Vertex 1 has loops of three levels, two of them by vertex 2. */
+static void loops_of_one_start(void)
+{
+    static removal lent;
+    static const uint8_t chart[] = {3, 1, 5, 0, 1, 1, 1, 0, 1, 2, 2, 0, 1, 3, 2, 0, 1, 4, 0, 0, 2, 1, 1, 0};
+    set_body(&lent.chart, chart, sizeof chart);
+    set_body(&lent.labels, (uint8_t[]){1, 2, 3, 0, 0}, 5);
+    set_body(&lent.standing, (uint8_t[]){1, 1, 1, 1, 1}, 5);
+    expect_together("two of three", &lent, (uint8_t[]){1, 3, 1, 1}, 4, DONE, (uint8_t[]){0, 1, 0, 1, 1});
+    set_body(&lent.standing, (uint8_t[]){1, 1, 1, 1, 1}, 5);
+    expect_together("all three", &lent, (uint8_t[]){1, 2, 1, 3, 1, 1}, 6, DONE, (uint8_t[]){0, 0, 0, 1, 1});
+}
+
+/* Of the first vertices, `ring`, each enters the next and the last one the first; all others go to
+ * themselves. Every transition is an entry of level 1. */
+static void put_ring(removal *lent, unsigned ring, unsigned vertices)
+{
+    lent->chart.len = 0;
+    put_four(&lent->chart, vertices + 1, 1, vertices, 0);
+    for (unsigned v = 1; v <= vertices; v++)
+        put_four(&lent->chart, v, 1, v < ring ? v + 1 : v == ring ? 1 : v, 0);
+    lent->labels.len = vertices;
+    lent->standing.len = vertices;
+    memset(lent->labels.bytes, 1, vertices);
+    memset(lent->standing.bytes, 1, vertices);
+}
+
+/* 57: every two loops of a ring start inside each other, near or far. */
+static void loops_of_a_ring(void)
+{
+    static removal lent;
+    for (unsigned ring = 2; ring < 128; ring += 25) {
+        uint8_t left[127];
+        put_ring(&lent, ring, 127);
+        for (unsigned v = 2; v <= ring; v++) {
+            expect_together("1 and another", &lent, (uint8_t[]){1, 1, (uint8_t)v, 1}, 4, numbers(57, 0, 0, 0), NULL);
+            expect_together("another and 1", &lent, (uint8_t[]){(uint8_t)v, 1, 1, 1}, 4, numbers(57, 0, 0, 0), NULL);
+        }
+        memset(left, 1, sizeof left);
+        left[0] = 0;
+        expect_together("1 alone", &lent, (uint8_t[]){1, 1}, 2, DONE, left);
+        expect_together("another, 1 gone", &lent, (uint8_t[]){2, 1}, 2, numbers(52, 2, 1, 1), NULL);
+    }
+}
+
+/* 64 loops, (1, 1) and (2, 1) at these places. */
+static void put_one_and_two(body *loops, size_t one, size_t two)
+{
+    loops->len = 0;
+    for (size_t k = 0; k < SEQ_MOST_LOOPS; k++) {
+        put(loops, (uint8_t)(k == one ? 1 : k == two ? 2 : 127 - k));
+        put(loops, 1);
+    }
+}
+
+/* Vertices 1 and 2 are a ring: 57 has the lower of their places, and comes after 51 and 52. */
+static void places_of_starts(void)
+{
+    static removal lent;
+    static body loops;
+    put_ring(&lent, 2, 127);
+    for (size_t i = 0; i < SEQ_MOST_LOOPS; i++) {
+        for (size_t j = 0; j < i; j++) {
+            put_one_and_two(&loops, i, j);
+            expect_together("2 before 1", &lent, loops.bytes, loops.len, numbers(57, j, 0, 0), NULL);
+            put_one_and_two(&loops, j, i);
+            expect_together("1 before 2", &lent, loops.bytes, loops.len, numbers(57, j, 0, 0), NULL);
+        }
+    }
+    expect_together("51 after them", &lent, (uint8_t[]){1, 1, 2, 1, 3, 2}, 6, numbers(51, 3, 2, 0), NULL);
+    lent.chart.bytes[4 + 4 * 2 + 2] = 0;
+    expect_together("52 after them", &lent, (uint8_t[]){1, 1, 2, 1, 3, 1}, 6, numbers(52, 3, 1, 1), NULL);
+}
+
+/* Vertices 1 and 2 lead to themselves and to each other, all entries: what stands makes them no loops, a
+ * ring, or two loops apart. */
+static void bodies_by_what_stands(void)
+{
+    static removal lent;
+    static const uint8_t chart[] = {3, 1, 4, 0, 1, 1, 1, 0, 1, 1, 2, 0, 2, 1, 1, 0, 2, 1, 2, 0};
+    static const uint8_t both[4] = {1, 1, 2, 1};
+    set_body(&lent.chart, chart, sizeof chart);
+    set_body(&lent.labels, (uint8_t[]){1, 1, 1, 1}, 4);
+    set_body(&lent.standing, (uint8_t[]){1, 1, 1, 1}, 4);
+    expect_together("all stand", &lent, both, 4, numbers(52, 1, 1, 2), NULL);
+    set_body(&lent.standing, (uint8_t[]){1, 0, 1, 1}, 4);
+    expect_together("1 is a loop, 2 is none", &lent, both, 4, numbers(52, 2, 1, 2), NULL);
+    set_body(&lent.standing, (uint8_t[]){0, 0, 1, 1}, 4);
+    expect_together("nothing of 1", &lent, both, 4, numbers(51, 1, 1, 0), NULL);
+    set_body(&lent.standing, (uint8_t[]){0, 1, 1, 0}, 4);
+    expect_together("a ring", &lent, both, 4, numbers(57, 0, 0, 0), NULL);
+    set_body(&lent.standing, (uint8_t[]){1, 0, 0, 1}, 4);
+    expect_together("apart", &lent, both, 4, DONE, (uint8_t[]){0, 0, 0, 0});
+}
+
+/* The body of (1, 1) stops at 1, and does not have the loop of vertex 3, where 1 leads on. */
+static void bodies_that_stop(void)
+{
+    static removal lent;
+    static const uint8_t chart[] = {4, 1, 5, 0, 1, 1, 2, 0, 1, 2, 3, 0, 2, 1, 1, 0, 3, 1, 3, 0, 3, 2, 0, 0};
+    static const uint8_t gone[5] = {0, 1, 1, 0, 1};
+    set_body(&lent.chart, chart, sizeof chart);
+    for (uint8_t label = 0; label < 3; label += 2) {
+        set_body(&lent.labels, (uint8_t[]){1, label, 0, 1, 0}, 5);
+        set_body(&lent.standing, (uint8_t[]){1, 1, 1, 1, 1}, 5);
+        expect_together("1 and where it leads", &lent, (uint8_t[]){1, 1, 3, 1}, 4, DONE, gone);
+        set_body(&lent.standing, (uint8_t[]){1, 1, 1, 1, 1}, 5);
+        expect_together("the other order", &lent, (uint8_t[]){3, 1, 1, 1}, 4, DONE, gone);
+    }
+}
+
+/* 56: lengths that are odd or too long, and a loop at any two places; of loops that there are and others. */
+static void refused_lists(void)
+{
+    static removal lent;
+    static body loops;
+    put_line_of_loops(&lent);
+    put_loops(&loops, 126);
+    for (size_t len = 1; len <= 252; len++)
+        if (len % 2 == 1 || len > 2 * SEQ_MOST_LOOPS)
+            expect_together("a list odd or too long", &lent, loops.bytes, len, NO_LIST, NULL);
+    for (size_t len = 256; len < sizeof loops.bytes; len *= 2)
+        expect_together("a list far too long", &lent, loops.bytes, len, NO_LIST, NULL);
+    for (size_t i = 0; i < 2 * SEQ_MOST_LOOPS; i += 2) {
+        for (size_t j = i + 2; j < 2 * SEQ_MOST_LOOPS; j += 2) {
+            put_loops(&loops, SEQ_MOST_LOOPS);
+            loops.bytes[j] = loops.bytes[i];
+            expect_together("a loop twice", &lent, loops.bytes, loops.len, NO_LIST, NULL);
+        }
+    }
+    expect_together("no loop, twice", &lent, (uint8_t[]){0, 0, 0, 0}, 4, NO_LIST, NULL);
+    expect_together("no vertex, twice", &lent, (uint8_t[]){1, 9, 255, 255, 255, 255}, 6, NO_LIST, NULL);
+    expect_together("half a loop", &lent, (uint8_t[]){1, 9, 1}, 3, NO_LIST, NULL);
+    expect_together("none twice", &lent, (uint8_t[]){2, 1, 2, 2, 1, 2}, 6, numbers(51, 2, 2, 0), NULL);
+}
+
+/* Before a list is looked at, 20, 21, 30 and 50 come, for every list. */
+static void refused_before_their_list(void)
+{
+    static removal lent;
+    static const uint8_t lists[][4] = {{0}, {2, 1}, {1, 2}, {2}, {2, 1, 2}, {2, 1, 2, 1}, {9, 9}};
+    static const size_t lens[] = {0, 2, 2, 1, 3, 4, 2};
+    for (size_t k = 0; k < 7; k++) {
+        two_loops(&lent, TWO_LEVELS);
+        lent.standing.bytes[3] = 2;
+        expect_together("a standing byte of 2", &lent, lists[k], lens[k], numbers(50, 0, 0, 0), NULL);
+        two_loops(&lent, TWO_LEVELS);
+        lent.standing.len = 3;
+        expect_together("3 standing bytes", &lent, lists[k], lens[k], numbers(50, 0, 0, 0), NULL);
+        lent.labels.len = 5;
+        expect_together("5 labels", &lent, lists[k], lens[k], numbers(30, 5, 0, 0), NULL);
+        lent.chart.bytes[4 + 4 * 3 + 3] = 1;
+        expect_together("transition 3 with a last byte", &lent, lists[k], lens[k], numbers(21, 3, 0, 0), NULL);
+        lent.chart.bytes[0] = 129;
+        expect_together("V 129", &lent, lists[k], lens[k], numbers(20, 0, 0, 0), NULL);
+    }
+}
+
+/* The loops of a vertex at the levels from `low` to `high`; for vertex 0 those of level 1 at the vertices
+ * from `low` to `high`. */
+static void put_range(body *loops, unsigned vertex, unsigned low, unsigned high)
+{
+    loops->len = 0;
+    for (unsigned k = low; k <= high; k++) {
+        put(loops, (uint8_t)(vertex ? vertex : k));
+        put(loops, (uint8_t)(vertex ? k : 1));
+    }
+}
+
+/* Makes the bytes of the entries of these loops 0. */
+static void clear(uint8_t *left, const removal *lent, const body *loops)
+{
+    for (size_t at = 0; at < loops->len; at += 2)
+        for (size_t i = 0; i < lent->labels.len; i++)
+            if (lent->chart.bytes[4 + 4 * i] == loops->bytes[at] && lent->labels.bytes[i] == loops->bytes[at + 1])
+                left[i] = 0;
+}
+
+/* V 128, T 8,192: all loops in three lists, those of vertex 1 after those that are inside. */
+static void all_lists_of_the_full_chart(void)
+{
+    static removal lent;
+    static body loops;
+    static uint8_t left[8192];
+    static const unsigned lists[3][3] = {{0, 2, 65}, {1, 2, 65}, {1, 66, 128}};
+    put_full_chart(&lent.chart, &lent.labels);
+    lent.standing.len = sizeof left;
+    memset(lent.standing.bytes, 1, sizeof left);
+    memset(left, 1, sizeof left);
+    put_range(&loops, 1, 2, 65);
+    expect_together("(1, 2) goes, (1, 3) too early", &lent, loops.bytes, loops.len, numbers(52, 1, 3, 2), NULL);
+    put_range(&loops, 0, 2, 66);
+    expect_together("65 loops, the last one none", &lent, loops.bytes, loops.len, NO_LIST, NULL);
+    for (size_t k = 0; k < 3; k++) {
+        put_range(&loops, lists[k][0], lists[k][1], lists[k][2]);
+        clear(left, &lent, &loops);
+        expect_together("loops of the full chart", &lent, loops.bytes, loops.len, DONE, left);
+    }
+    for (size_t i = 0; i < sizeof left; i++)
+        left[i] = lent.labels.bytes[i] == 0;
+    expect_bytes("branches are left", lent.standing.bytes, left, sizeof left);
+    lent.standing.bytes[8191] = 2;
+    expect_together("last byte 2", &lent, loops.bytes, 1, numbers(50, 0, 0, 0), NULL);
 }
 
 /* The follower. */
@@ -1022,6 +1366,7 @@ int main(void)
 {
     file_end = end_of_memory(sizeof file_bytes);
     labels_end = end_of_memory(sizeof file_bytes);
+    loops_end = end_of_memory(sizeof file_bytes);
     out_end = end_of_memory(SEQ_LONGEST_CHART + 16);
     starred_checks();
     equal_levels_inside_each_other();
@@ -1041,6 +1386,16 @@ int main(void)
     numbers_that_name_no_loop();
     no_loop_charts();
     all_loops_of_the_full_chart();
+    one_loop_inside_the_other();
+    loops_of_a_line();
+    loops_of_one_start();
+    loops_of_a_ring();
+    places_of_starts();
+    bodies_by_what_stands();
+    bodies_that_stop();
+    refused_lists();
+    refused_before_their_list();
+    all_lists_of_the_full_chart();
     starred_runs();
     sets_of_several_vertices();
     every_event();

@@ -2,15 +2,18 @@
 // anything, since nothing checks a C caller.
 ghost use mathlib.Core.Path.{_≡_};
 ghost use lib.ListN.{length};
-ghost use Rattle.report.specs.Numbers.{verdictNumbers, writtenNumbers, removedNumbers, followedNumbers, wayNumbers};
+ghost use Rattle.report.specs.Numbers.{verdictNumbers, writtenNumbers, removedNumbers, togetherNumbers};
+ghost use Rattle.report.specs.Numbers.{followedNumbers, wayNumbers};
 ghost use Rattle.verdict.specs.Verdicts.{verdictOf};
 ghost use Rattle.expression.specs.Body.{writtenOf, bufferOf};
 ghost use Rattle.elimination.specs.Removals.{removalOf, leftOf};
+ghost use Rattle.elimination.specs.Together.{togetherOf, leftTogether};
 ghost use Rattle.follower.specs.States.{eventLent, restartLent};
 ghost use Rattle.follower.specs.Ways.{wayOf, wayLeft};
 use report::Numbers;
 use report::followed_numbers;
 use report::removed_numbers;
+use report::together_numbers;
 use report::verdict_numbers;
 use report::way_numbers;
 use report::written_numbers;
@@ -49,6 +52,23 @@ pub extern "C" fn seq_remove(
         ≡ leftOf (now (chart .entry)) (now (labels .entry)) vertex level (now (standing .entry))) ⌝ }
 {
     removed_numbers(elimination::remove(chart, labels, vertex, level, standing))
+}
+
+// Takes out several loops together, two bytes each: 0 where the bytes of all their entries have become
+// 0, or the refusal, which changes none.
+#[no_mangle]
+pub extern "C" fn seq_remove_together(
+    chart: &[u8],
+    labels: &[u8],
+    loops: &[u8],
+    standing: &mut [u8],
+) -> Numbers
+    ensures { λ r. ⌜ (r ≡ togetherNumbers
+        (togetherOf (now (chart .entry)) (now (labels .entry)) (now (loops .entry)) (now (standing .entry))))
+        × (now (standing .exit)
+        ≡ leftTogether (now (chart .entry)) (now (labels .entry)) (now (loops .entry)) (now (standing .entry))) ⌝ }
+{
+    together_numbers(elimination::remove_together(chart, labels, loops, standing))
 }
 
 // A restart over a chart, of a state of sixteen bytes: 0 with 1 for taken, whether the end is in the
