@@ -31,6 +31,7 @@ use lines::RESTART;
 use lines::STANDING;
 use lines::STATE;
 use lines::TAKE;
+use lines::TOGETHER;
 use lines::WAY;
 use lines::WRITE;
 use lines::prepare;
@@ -118,6 +119,20 @@ fn taken(bytes: &[u8], line: &[u8], standing: &mut [u8]) -> Numbers {
     report::removed_numbers(removed)
 }
 
+// Takes out the loops whose bytes a line has.
+fn taken_together(bytes: &[u8], line: &[u8], standing: &mut [u8]) -> Numbers {
+    let mut list = [0u8; 160];
+    let end = write(&mut list, 0, after(part(line, 0, find(line, 0, b'=')), 1));
+    let count = at_most(&list, end);
+    let together = elimination::remove_together(
+        body(bytes, CHART),
+        body(bytes, LABELS),
+        &list[..count],
+        standing,
+    );
+    report::together_numbers(together)
+}
+
 // The action of an event's line.
 fn action(line: &[u8]) -> u8 {
     (number(after(line, 1)) % 256) as u8
@@ -200,6 +215,9 @@ fn answer(bytes: &mut [u8], lent: &mut [u8], word: usize, line: &[u8], text: &mu
     }
     if word == TAKE {
         return write_done(text, taken(bytes, line, lent));
+    }
+    if word == TOGETHER {
+        return write_done(text, taken_together(bytes, line, lent));
     }
     if word == LEFT {
         return append_bytes(text, 0, lent);
