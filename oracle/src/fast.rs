@@ -2,8 +2,10 @@
 //! expression's first steps are `u64`, transitions are read where they lie.
 //!
 //! Nothing here is shared with `plain` but the answer's form.
+mod together;
 mod way;
 
+pub use together::remove_together;
 pub use way::shortest_way;
 
 use crate::{Answer, NOT_POSSIBLE, TAKEN};
@@ -300,7 +302,7 @@ impl<'a> Chart<'a> {
         self.transitions[4 * row.start..4 * row.end].as_chunks().0
     }
 
-    fn leaving(&self, vertex: usize) -> impl Iterator<Item = Transition> + 'a {
+    fn leaving(&self, vertex: usize) -> impl Iterator<Item = Transition> + Clone + 'a {
         self.steps(vertex).iter().map(transition)
     }
 }
@@ -447,7 +449,7 @@ fn labelling(chart: &Chart, labels: &[u8]) -> Result<u64, Refusal> {
                 set &= set - 1;
                 let entries = std::mem::take(&mut targets[level]);
                 let body = match &shared {
-                    Some(onward) => union(onward, entries),
+                    Some(onward) => union(onward, entries, lowest),
                     None => closure(&branches, entries),
                 };
                 if body & bit(v) == 0 {
@@ -467,11 +469,11 @@ fn labelling(chart: &Chart, labels: &[u8]) -> Result<u64, Refusal> {
     Ok(loops)
 }
 
-/// All that is in one of the sets of `members`.
-fn union(sets: &Successors, mut members: Vertices) -> Vertices {
+/// All that is in one of the sets of `members`, of which the next one is picked.
+fn union(sets: &Successors, mut members: Vertices, pick: impl Fn(Vertices) -> usize) -> Vertices {
     let mut all = 0;
     while members != 0 {
-        all |= sets[lowest(members)];
+        all |= sets[pick(members)];
         // What is in a set has its own set in it.
         members &= !all;
     }
@@ -617,13 +619,7 @@ fn removable(
     level: u64,
     standing: &[u8],
 ) -> Result<std::ops::Range<usize>, Refusal> {
-    let chart = Chart::read(chart)?;
-    if labels.len() != chart.count() {
-        return Err(refused(30, labels.len(), 0, 0));
-    }
-    if standing.len() != chart.count() || standing.iter().fold(0, |all, byte| all | byte) > 1 {
-        return Err(refused(50, 0, 0, 0));
-    }
+    let chart = standing_chart(chart, labels, standing)?;
     let no_entry = Answer::new(51, vertex, level, 0);
     if vertex >= chart.vertices as u64 || level == 0 || level > 255 {
         return Err(no_entry);
@@ -638,26 +634,52 @@ fn removable(
     if entries == 0 {
         return Err(no_entry);
     }
-    let body = reached(entries, |u| {
-        // Stopping at v.
-        if u == v {
-            return 0;
-        }
-        let steps = chart.leaving(u).zip(&standing[chart.row(u)]);
-        steps.fold(0, |to, (t, &stands)| to | (stands as Vertices) << t.to)
-    });
-    let broken = match body {
-        None => 2,
-        Some(body) if body & bit(v) == 0 => 1,
-        Some(body) if body & 1 != 0 => 3,
-        Some(_) => return Ok(row),
-    };
-    Err(Answer::new(52, vertex, level, broken))
+    match loop_body(v, entries, |u| standing_steps(&chart, standing, u)) {
+        Ok(_) => Ok(row),
+        Err(broken) => Err(Answer::new(52, vertex, level, broken)),
+    }
+}
+
+/// The chart of standing bytes; refusals 20, 21, 30, 50.
+fn standing_chart<'a>(
+    chart: &'a [u8],
+    labels: &[u8],
+    standing: &[u8],
+) -> Result<Chart<'a>, Refusal> {
+    let chart = Chart::read(chart)?;
+    if labels.len() != chart.count() {
+        return Err(refused(30, labels.len(), 0, 0));
+    }
+    if standing.len() != chart.count() || standing.iter().fold(0, |all, byte| all | byte) > 1 {
+        return Err(refused(50, 0, 0, 0));
+    }
+    Ok(chart)
+}
+
+/// What the standing steps of a vertex lead to.
+fn standing_steps(chart: &Chart, standing: &[u8], vertex: usize) -> Vertices {
+    let steps = chart.leaving(vertex).zip(&standing[chart.row(vertex)]);
+    steps.fold(0, |to, (t, &stands)| to | (stands as Vertices) << t.to)
+}
+
+/// What a loop's entries and then all steps reach, stopping at its vertex; or
+/// the first of L1 to L3 that is broken.
+fn loop_body(
+    v: usize,
+    entries: Vertices,
+    mut steps: impl FnMut(usize) -> Vertices,
+) -> Result<Vertices, u64> {
+    match reached(entries, |u| if u == v { 0 } else { steps(u) }) {
+        None => Err(2),
+        Some(body) if body & bit(v) == 0 => Err(1),
+        Some(body) if body & 1 != 0 => Err(3),
+        Some(body) => Ok(body),
+    }
 }
 
 /// What `from` and all that follows it reach, depth first; None where there is
 /// a cycle.
-fn reached(from: Vertices, successors: impl Fn(usize) -> Vertices) -> Option<Vertices> {
+fn reached(from: Vertices, mut successors: impl FnMut(usize) -> Vertices) -> Option<Vertices> {
     let (mut seen, mut on_path): (Vertices, Vertices) = (0, 0);
     let mut path = [0u8; MOST_VERTICES];
     // What is still to be followed before each place of the path.

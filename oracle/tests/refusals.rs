@@ -67,6 +67,17 @@ fn decimal(text: &str) -> usize {
         .unwrap_or_else(|_| panic!("{text} is no number"))
 }
 
+/// Bytes, once or so many times.
+fn repeated(text: &str) -> Vec<u8> {
+    match text.split_once(',') {
+        Some((new, times)) => {
+            let times = times.strip_suffix("times").expect("how many times");
+            bytes(new).repeat(decimal(times))
+        }
+        None => bytes(text),
+    }
+}
+
 fn change(file: &mut Vec<u8>, change: &str) {
     let (word, rest) = change.split_once(' ').expect("a word and where");
     match word {
@@ -78,13 +89,7 @@ fn change(file: &mut Vec<u8>, change: &str) {
         }
         "remove" => drop(file.remove(decimal(rest))),
         "cut" => file.truncate(decimal(rest.strip_prefix("to ").expect("cut to a length"))),
-        "append" => match rest.split_once(',') {
-            Some((new, times)) => {
-                let times = times.strip_suffix("times").expect("how many times");
-                file.extend(bytes(new).repeat(decimal(times)));
-            }
-            None => file.extend(bytes(rest)),
-        },
+        "append" => file.extend(repeated(rest)),
         _ => panic!("{change} is no change"),
     }
 }
@@ -147,6 +152,20 @@ fn taken(file: &[u8], pair: &str, standing: &mut [u8]) -> Answer {
     removals::Trial::of(proved::remove).call(&yard(file), pair, standing, &"the page")
 }
 
+/// Takes several loops out of the file's chart together.
+fn taken_together(file: &[u8], list: &str, standing: &mut [u8]) -> Answer {
+    let Yard {
+        chart, labelling, ..
+    } = yard(file);
+    let loops = repeated(list);
+    let mut other = standing.to_vec();
+    let answer = proved::remove_together(&chart, &labelling, &loops, standing);
+    let plain = plain::remove_together(&chart, &labelling, &loops, &mut other);
+    assert_eq!(plain, answer);
+    assert_eq!(other, standing);
+    answer
+}
+
 /// A call of the follower over the file's chart.
 fn followed(file: &[u8], call: Call, state: &mut [u8]) -> Answer {
     let library = Follower {
@@ -167,6 +186,7 @@ fn answered(lines: &[String]) -> String {
         assert!(!last.is_some_and(|answer: Answer| answer.is_refusal()));
         match line.split_once(' ') {
             Some(("take", pair)) => last = Some(taken(&file, pair, &mut standing)),
+            Some(("together", list)) => last = Some(taken_together(&file, list, &mut standing)),
             Some(("standing", rest)) => change(&mut standing, rest),
             Some(("event", action)) => {
                 let call = Call::Event(decimal(action).try_into().expect("an action"));
@@ -210,7 +230,7 @@ fn each_number_has_an_example() {
     numbers.dedup();
     assert_eq!(
         numbers,
-        [&CHECK_REFUSALS[..], &[50, 51, 52, 53, 54, 55]].concat()
+        [&CHECK_REFUSALS[..], &[50, 51, 52, 53, 54, 55, 56, 57]].concat()
     );
 }
 
@@ -256,6 +276,20 @@ fn each_cause_of_53_has_an_example() {
 fn each_call_that_writes_has_an_example_of_54() {
     for call in ["lend", "way"] {
         assert!(examples_of(54).any(|e| last_is(&e, call)), "{call}");
+    }
+}
+
+/// 56 for an odd length, for too many loops, and for neither: a loop twice.
+#[test]
+fn each_cause_of_56_has_an_example() {
+    let length = |e: Example| {
+        let list = e.changes.last()?.strip_prefix("together ")?;
+        Some(repeated(list).len())
+    };
+    let lengths: Vec<usize> = examples_of(56).filter_map(length).collect();
+    for (odd, long) in [(true, false), (false, true), (false, false)] {
+        let such = |length: &usize| (length % 2 == 1) == odd && (*length > 128) == long;
+        assert!(lengths.iter().any(such), "odd {odd}, long {long}");
     }
 }
 

@@ -1,6 +1,6 @@
-//! Files at the limits, each hard on one stage of the check, and removals,
-//! calls of the follower and ways to the end at the limits. All files are
-//! accepted.
+//! Files at the limits, each hard on one stage of the check, and removals of one
+//! loop and of several together, calls of the follower and ways to the end at
+//! the limits. All files are accepted.
 use super::charts::chart_of;
 use super::expressions::{self, Shape};
 use super::lists::Call;
@@ -317,22 +317,28 @@ pub struct Removal {
     pub standing: Vec<u8>,
 }
 
+/// The bodies of a chart with these labelled steps and of its labels; what is
+/// missing of 8,192 transitions are branches to the next lower vertex.
+fn filled(mut labelled: Labelled) -> (Vec<u8>, Vec<u8>) {
+    let downwards = (2..=127).rev().map(|v| step(v, 2, v - 1));
+    let missing = 8192 - labelled.len();
+    let new: Vec<Transition> = downwards
+        .filter(|t| !labelled.contains_key(t))
+        .take(missing)
+        .collect();
+    labelled.extend(new.into_iter().map(|t| (t, 0)));
+    let chart = chart_of(128, 127, labelled.keys().copied().collect());
+    (chart.bytes(), labelled.into_values().collect())
+}
+
 impl Removal {
-    /// All stands; what is missing of 8,192 transitions are branches to the
-    /// next lower vertex.
-    fn of(vertex: u8, level: u8, mut labelled: Labelled) -> Removal {
-        let downwards = (2..=127).rev().map(|v| step(v, 2, v - 1));
-        let missing = 8192 - labelled.len();
-        let new: Vec<Transition> = downwards
-            .filter(|t| !labelled.contains_key(t))
-            .take(missing)
-            .collect();
-        labelled.extend(new.into_iter().map(|t| (t, 0)));
-        let chart = chart_of(128, 127, labelled.keys().copied().collect());
+    /// All stands.
+    fn of(vertex: u8, level: u8, labelled: Labelled) -> Removal {
+        let (chart, labels) = filled(labelled);
         Removal {
-            chart: chart.bytes(),
-            standing: vec![1; labelled.len()],
-            labels: labelled.into_values().collect(),
+            chart,
+            standing: vec![1; labels.len()],
+            labels,
             vertex,
             level,
         }
@@ -386,14 +392,18 @@ fn chain(last: usize) -> Removal {
 }
 
 /// Each vertex goes round by itself at 64 levels.
-fn of_thousands(level: u8) -> Removal {
+fn thousands() -> Labelled {
     let mut labelled = Labelled::new();
     for v in 1..=127 {
         for action in 1..=64 {
             labelled.insert(step(v, action, v), action);
         }
     }
-    Removal::of(127, level, labelled)
+    labelled
+}
+
+fn of_thousands(level: u8) -> Removal {
+    Removal::of(127, level, thousands())
 }
 
 /// Removals from charts of 128 vertices and 8,192 transitions, each with its
@@ -409,6 +419,118 @@ pub fn removals() -> Vec<(&'static str, Removal)> {
         ("refused 52 r 2", dense(step(64, 1, 64), 1)),
         ("refused 52 r 2 chain", chain(127)),
         ("refused 52 r 3", dense(step(2, 1, 0), 0)),
+    ]
+}
+
+/// A list of loops that are to be taken out together.
+#[derive(Clone, Debug)]
+pub struct TogetherCall {
+    pub chart: Vec<u8>,
+    pub labels: Vec<u8>,
+    /// Two bytes each: v, then level.
+    pub loops: Vec<u8>,
+    pub standing: Vec<u8>,
+}
+
+impl TogetherCall {
+    /// All stands.
+    fn of(loops: impl Iterator<Item = (u8, u8)>, labelled: Labelled) -> TogetherCall {
+        let (chart, labels) = filled(labelled);
+        TogetherCall {
+            chart,
+            standing: vec![1; labels.len()],
+            labels,
+            loops: loops.flat_map(|(v, level)| [v, level]).collect(),
+        }
+    }
+}
+
+/// Every vertex branches to all lower ones; by each of 64 loops vertex 1 leads
+/// to the two highest, and all other vertices are in its body.
+fn dense_of_one_start() -> TogetherCall {
+    let mut labelled = downwards(127, 0);
+    for level in 1..=64 {
+        labelled.insert(step(1, level, 126), level);
+        labelled.insert(step(1, level, 127), level);
+    }
+    TogetherCall::of((1..=64).map(|level| (1, level)), labelled)
+}
+
+/// 64 or 65 steps from each vertex to the next lower one, down to vertex 1 and
+/// by 64 loops up again.
+fn chain_of_one_start() -> TogetherCall {
+    let mut labelled = Labelled::new();
+    for v in 2..=127 {
+        for action in 1..=if v < 64 { 64 } else { 65 } {
+            labelled.insert(step(v, action, v - 1), 0);
+        }
+    }
+    for level in 1..=64 {
+        labelled.insert(step(1, level, 127), level);
+    }
+    TogetherCall::of((1..=64).map(|level| (1, level)), labelled)
+}
+
+/// 64 starts, all of which lead to the 63 other vertices. These lead to all
+/// lower ones by three actions, and not back. What else a start leads to is
+/// said by `back`.
+fn with_a_tail(back: fn(usize) -> usize) -> TogetherCall {
+    let mut labelled = Labelled::new();
+    for v in 1..64 {
+        for action in 1..=3 {
+            labelled.extend((1..v).map(|to| (step(v, action, to), 0)));
+        }
+    }
+    for v in 64..=127 {
+        labelled.insert(step(v, 1, back(v)), 1);
+        let first = if v < 99 { 29 } else { 28 };
+        labelled.extend((first..64).map(|to| (step(v, 1, to), 1)));
+    }
+    TogetherCall::of((64..=127).map(|v| (v, 1)), labelled)
+}
+
+/// The last two starts lead to each other, others to themselves.
+fn last_two_crossed(start: usize) -> usize {
+    match start {
+        126 => 127,
+        127 => 126,
+        other => other,
+    }
+}
+
+/// 64 or 65 steps from each vertex to the next one, round by all; each of the
+/// 64 loops goes round, wherever it starts.
+fn ring() -> TogetherCall {
+    let mut labelled = Labelled::new();
+    for v in 1..=127 {
+        let next = v % 127 + 1;
+        for action in 1..=if v < 64 { 64 } else { 65 } {
+            labelled.insert(step(v, action, next), 1);
+        }
+    }
+    TogetherCall::of((1..=64).map(|v| (v, 1)), labelled)
+}
+
+/// Lists of 64 loops from charts of 128 vertices and 8,192 transitions, and of two
+/// from the weighbridge's, whose entries have a level each and whose inner loop
+/// is gone; each with its name: done, and refused 57 where just the last two
+/// loops start inside each other, or all do.
+pub fn together_calls() -> Vec<(&'static str, TogetherCall)> {
+    let small = TogetherCall {
+        chart: weighbridge(),
+        labels: vec![2, 3, 0, 1, 0, 0, 0],
+        loops: vec![1, 2, 1, 3],
+        standing: vec![1, 1, 1, 0, 1, 1, 1],
+    };
+    let by_themselves = TogetherCall::of((64..=127).map(|v| (v, 64)), thousands());
+    vec![
+        ("done dense", dense_of_one_start()),
+        ("done chain", chain_of_one_start()),
+        ("done tail", with_a_tail(|start| start)),
+        ("done of thousands", by_themselves),
+        ("done small", small),
+        ("refused 57 last", with_a_tail(last_two_crossed)),
+        ("refused 57 ring", ring()),
     ]
 }
 

@@ -8,6 +8,7 @@ mod loop_chart;
 mod records;
 mod relation;
 mod removal;
+mod together;
 mod way;
 
 pub use chart::{transitions_leaving, Chart, Transition};
@@ -23,6 +24,7 @@ pub use loop_chart::{endless_vertices, Subchart};
 pub use records::{read_records, LONGEST_FILE};
 pub use relation::{check_relation, is_bisimulation, read_relation, Pairs};
 pub use removal::{remove, LoopSet};
+pub use together::remove_together;
 pub use way::shortest_way;
 
 use crate::Answer;

@@ -15,7 +15,15 @@ pub fn remove(
     level: u64,
     standing: &mut [u8],
 ) -> Answer {
-    match entries_to_remove(chart, labelling, vertex, level, standing) {
+    let found = Standing::read(chart, labelling, standing)
+        .and_then(|on| on.standing_loop(vertex, level))
+        .map(|found| found.entries);
+    cleared(standing, found)
+}
+
+/// Where entries are found, their standing bytes become 0.
+pub(super) fn cleared(standing: &mut [u8], entries: Result<Vec<usize>, Answer>) -> Answer {
+    match entries {
         Ok(entries) => {
             for index in entries {
                 standing[index] = 0;
@@ -26,47 +34,70 @@ pub fn remove(
     }
 }
 
-fn entries_to_remove(
-    chart: &[u8],
-    labelling: &[u8],
-    vertex: u64,
-    level: u64,
-    standing: &[u8],
-) -> Result<Vec<usize>, Answer> {
-    let chart = Chart::read(chart)?;
-    let labels = read_labels(labelling, &chart)?;
-    if standing.len() != chart.transitions.len() || standing.iter().any(|byte| *byte > 1) {
-        return Err(Answer::new(50, 0, 0, 0));
-    }
-    // Level 0 marks branches and names no loop.
-    let entries: Vec<usize> = (0..labels.len())
-        .filter(|&index| {
-            level != 0
-                && chart.transitions[index].from as u64 == vertex
-                && labels[index] as u64 == level
-                && standing[index] == 1
+/// A labelled chart with its standing bytes.
+pub(super) struct Standing<'a> {
+    chart: Chart,
+    labels: Vec<u8>,
+    standing: &'a [u8],
+}
+
+/// The standing entries of a loop, and the loop chart that they induce.
+pub(super) struct StandingLoop {
+    pub entries: Vec<usize>,
+    pub chart: Subchart,
+}
+
+impl Standing<'_> {
+    /// Refusals 20, 21, 30, 50.
+    pub fn read<'a>(
+        chart: &[u8],
+        labelling: &[u8],
+        standing: &'a [u8],
+    ) -> Result<Standing<'a>, Answer> {
+        let chart = Chart::read(chart)?;
+        let labels = read_labels(labelling, &chart)?;
+        if standing.len() != chart.transitions.len() || standing.iter().any(|byte| *byte > 1) {
+            return Err(Answer::new(50, 0, 0, 0));
+        }
+        Ok(Standing {
+            chart,
+            labels,
+            standing,
         })
-        .collect();
-    if entries.is_empty() {
-        return Err(Answer::new(51, vertex, level, 0));
     }
-    let subchart = Subchart::generated(vertex as usize, |at| {
-        let steps: Vec<usize> = if at as u64 == vertex {
-            entries.clone()
-        } else {
-            chart
-                .leaving(at)
-                .filter(|index| standing[*index] == 1)
+
+    /// Refusals 51, 52.
+    pub fn standing_loop(&self, vertex: u64, level: u64) -> Result<StandingLoop, Answer> {
+        // Level 0 marks branches and names no loop.
+        let entries: Vec<usize> = (0..self.labels.len())
+            .filter(|&index| {
+                level != 0
+                    && self.chart.transitions[index].from as u64 == vertex
+                    && self.labels[index] as u64 == level
+                    && self.standing[index] == 1
+            })
+            .collect();
+        if entries.is_empty() {
+            return Err(Answer::new(51, vertex, level, 0));
+        }
+        let chart = Subchart::generated(vertex as usize, |at| {
+            let steps: Vec<usize> = if at as u64 == vertex {
+                entries.clone()
+            } else {
+                self.chart
+                    .leaving(at)
+                    .filter(|index| self.standing[*index] == 1)
+                    .collect()
+            };
+            steps
+                .into_iter()
+                .map(|index| self.chart.transitions[index].to)
                 .collect()
-        };
-        steps
-            .into_iter()
-            .map(|index| chart.transitions[index].to)
-            .collect()
-    });
-    match subchart.first_broken() {
-        Some(broken) => Err(Answer::new(52, vertex, level, broken)),
-        None => Ok(entries),
+        });
+        match chart.first_broken() {
+            Some(broken) => Err(Answer::new(52, vertex, level, broken)),
+            None => Ok(StandingLoop { entries, chart }),
+        }
     }
 }
 

@@ -3,6 +3,8 @@
 use oracle::gen::{Rng, Yard};
 use oracle::plain::{Chart, Transition};
 use oracle::{fast, gen, plain, Answer};
+use std::collections::BTreeMap;
+use std::fmt::Debug;
 use std::thread;
 
 /// A test for each function that a module shares, of its name and with these
@@ -15,6 +17,33 @@ macro_rules! tests_of {
             $module::$name($($argument),+);
         })+
     };
+}
+
+/// How often each kind of answer was given.
+#[derive(Debug)]
+pub struct Seen<K>(BTreeMap<K, u64>);
+
+impl<K> Default for Seen<K> {
+    fn default() -> Seen<K> {
+        Seen(BTreeMap::new())
+    }
+}
+
+impl<K: Ord + Debug> Seen<K> {
+    pub fn note(&mut self, kind: K) {
+        *self.0.entry(kind).or_default() += 1;
+    }
+
+    pub fn all(&self) -> u64 {
+        self.0.values().sum()
+    }
+
+    /// Just these kinds, each so often at least, and so many in all.
+    pub fn are(&self, kinds: &[K], each: u64, all: u64) {
+        assert!(self.0.keys().eq(kinds), "{self:?}");
+        assert!(self.0.values().all(|times| *times >= each), "{self:?}");
+        assert!(self.all() >= all, "{self:?}");
+    }
 }
 
 /// Document 01's file G.

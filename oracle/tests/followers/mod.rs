@@ -1,12 +1,11 @@
 //! Some follower held against the plain one, on lent states, and lists of calls
 //! over accepted files against the published rules' follower.
 #![allow(dead_code)]
-use crate::common::{chart, damage_chart, files, g, long_state, some_state};
+use crate::common::{chart, damage_chart, files, g, long_state, some_state, Seen};
 use oracle::gen::lists::{events, Call};
 use oracle::gen::{self, Rng};
 use oracle::plain::{read_nodes, RulesFollower};
 use oracle::{fast, plain, Answer, NOT_POSSIBLE, TAKEN};
-use std::collections::BTreeMap;
 use std::fmt::Display;
 
 /// The calls of a follower on lent states, and the one that writes an
@@ -68,8 +67,8 @@ const fn refusal(n: u64) -> Answer {
 /// restarts and to events.
 pub struct Trial {
     follower: Follower,
-    restarts: BTreeMap<Answer, u64>,
-    events: BTreeMap<Answer, u64>,
+    restarts: Seen<Answer>,
+    events: Seen<Answer>,
 }
 
 impl Trial {
@@ -112,20 +111,16 @@ impl Trial {
             Call::Restart => &mut self.restarts,
             Call::Event(_) => &mut self.events,
         };
-        *seen.entry(kind(plain)).or_default() += 1;
+        seen.note(kind(plain));
         plain
     }
 
     /// Just these kinds of answers were given, each so often at least, and so
     /// many in all.
     fn saw(&self, restarts: &[Answer], events: &[Answer], each: u64, all: u64) {
-        let mut times = 0;
-        for (seen, kinds) in [(&self.restarts, restarts), (&self.events, events)] {
-            assert!(seen.keys().eq(kinds), "{seen:?}");
-            assert!(seen.values().all(|times| *times >= each), "{seen:?}");
-            times += seen.values().sum::<u64>();
-        }
-        assert!(times >= all, "{times} calls");
+        self.restarts.are(restarts, each, 0);
+        let of_events = all.saturating_sub(self.restarts.all());
+        self.events.are(events, each, of_events);
     }
 }
 

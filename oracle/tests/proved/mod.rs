@@ -17,6 +17,16 @@ extern "C" {
         standing: *mut u8,
         standing_len: usize,
     ) -> Answer;
+    fn seq_remove_together(
+        chart: *const u8,
+        chart_len: usize,
+        labels: *const u8,
+        labels_len: usize,
+        loops: *const u8,
+        loops_len: usize,
+        standing: *mut u8,
+        standing_len: usize,
+    ) -> Answer;
     fn seq_restart(chart: *const u8, chart_len: usize, state: *mut u8, state_len: usize) -> Answer;
     fn seq_event(
         chart: *const u8,
@@ -58,6 +68,23 @@ pub fn remove(chart: &[u8], labels: &[u8], vertex: u64, level: u64, standing: &m
             labels.len(),
             vertex as usize,
             level as usize,
+            standing.as_mut_ptr(),
+            standing.len(),
+        )
+    }
+}
+
+#[cfg(library)]
+pub fn remove_together(chart: &[u8], labels: &[u8], loops: &[u8], standing: &mut [u8]) -> Answer {
+    // SAFETY: as for a removal.
+    unsafe {
+        seq_remove_together(
+            chart.as_ptr(),
+            chart.len(),
+            labels.as_ptr(),
+            labels.len(),
+            loops.as_ptr(),
+            loops.len(),
             standing.as_mut_ptr(),
             standing.len(),
         )
@@ -111,6 +138,11 @@ pub fn write_chart(_: &[u8], _: &mut [u8]) -> Answer {
 
 #[cfg(not(library))]
 pub fn remove(_: &[u8], _: &[u8], _: u64, _: u64, _: &mut [u8]) -> Answer {
+    panic!("{MISSING}")
+}
+
+#[cfg(not(library))]
+pub fn remove_together(_: &[u8], _: &[u8], _: &[u8], _: &mut [u8]) -> Answer {
     panic!("{MISSING}")
 }
 

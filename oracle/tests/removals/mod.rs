@@ -1,9 +1,9 @@
 //! Some removal held against the plain one, and lists of calls over accepted
 //! files against the plain set of loops: answers and all standing bytes.
 #![allow(dead_code)]
-use crate::common::{chart_of, files, g, two_loops};
+use crate::common::{chart_of, files, g, two_loops, Seen};
 use oracle::gen::{self, Rng, Yard};
-use oracle::plain::{endless_vertices, Chart, LoopSet};
+use oracle::plain::{endless_vertices, Chart, Loop, LoopSet};
 use oracle::{plain, Answer};
 use std::collections::BTreeMap;
 use std::fmt::Display;
@@ -11,18 +11,46 @@ use std::fmt::Display;
 /// Takes a chart, labels, a vertex, a level and standing bytes.
 pub type Remove = fn(&[u8], &[u8], u64, u64, &mut [u8]) -> Answer;
 
-const DONE: Answer = Answer::fine(0, 0, 0);
+pub const DONE: Answer = Answer::fine(0, 0, 0);
+
+/// The one answer of the plain call and another one, on one set of standing
+/// bytes, which a refusal leaves.
+pub fn same_answer(
+    (plain, other): (impl Fn(&mut [u8]) -> Answer, impl Fn(&mut [u8]) -> Answer),
+    yard: &Yard,
+    standing: &mut [u8],
+    origin: &dyn Display,
+) -> Answer {
+    let before = standing.to_vec();
+    let mut left = before.clone();
+    let (answer, others) = (plain(standing), other(&mut left));
+    assert!(
+        answer == others && *standing == left[..],
+        "{origin}: plain {answer:?}, the other {others:?}\n\
+         chart {}\nlabels {}\nbefore {}\nplain {}\nother {}",
+        gen::hex(&yard.chart),
+        gen::hex(&yard.labelling),
+        gen::hex(&before),
+        gen::hex(standing),
+        gen::hex(&left)
+    );
+    assert!(
+        answer == DONE || standing == before,
+        "{origin}: a refusal changed standing bytes"
+    );
+    answer
+}
 
 /// A removal that is tried, and how often it gave each answer: the number,
 /// with 52 the r.
 pub struct Trial {
     remove: Remove,
-    seen: BTreeMap<(u64, u64), u64>,
+    seen: Seen<(u64, u64)>,
 }
 
 impl Trial {
     pub fn of(remove: Remove) -> Trial {
-        let seen = BTreeMap::new();
+        let seen = Seen::default();
         Trial { remove, seen }
     }
 
@@ -34,45 +62,26 @@ impl Trial {
         standing: &mut [u8],
         origin: &dyn Display,
     ) -> Answer {
-        let before = standing.to_vec();
-        let mut other = before.clone();
-        let plain = plain::remove(&yard.chart, &yard.labelling, v, level, standing);
-        let tried = (self.remove)(&yard.chart, &yard.labelling, v, level, &mut other);
-        assert!(
-            plain == tried && *standing == other[..],
-            "{origin}, loop ({v}, {level}): plain {plain:?}, the other {tried:?}\n\
-             chart {}\nlabels {}\nbefore {}\nplain {}\nother {}",
-            gen::hex(&yard.chart),
-            gen::hex(&yard.labelling),
-            gen::hex(&before),
-            gen::hex(standing),
-            gen::hex(&other)
-        );
-        assert!(
-            plain == DONE || standing == before,
-            "{origin}: a refusal changed standing bytes"
-        );
-        let r = if plain.n == 52 { plain.r } else { 0 };
-        *self.seen.entry((plain.n, r)).or_default() += 1;
-        plain
-    }
-
-    /// Just these answers were given, each so often at least, and so many in all.
-    fn saw(&self, answers: &[(u64, u64)], each: u64, all: u64) {
-        let seen = &self.seen;
-        assert!(seen.keys().eq(answers), "{seen:?}");
-        assert!(seen.values().all(|times| *times >= each), "{seen:?}");
-        assert!(seen.values().sum::<u64>() >= all, "{seen:?}");
+        let by = |remove: Remove| {
+            move |standing: &mut [u8]| remove(&yard.chart, &yard.labelling, v, level, standing)
+        };
+        let calls = (by(plain::remove), by(self.remove));
+        let origin = format!("{origin}, loop ({v}, {level})");
+        let answer = same_answer(calls, yard, standing, &origin);
+        let r = if answer.n == 52 { answer.r } else { 0 };
+        self.seen.note((answer.n, r));
+        answer
     }
 }
 
 /// Accepted files from a seed on, but for the few with the most transitions.
-fn accepted(first: u64, count: u64) -> impl Iterator<Item = (u64, Yard)> {
+pub fn accepted(first: u64, count: u64) -> impl Iterator<Item = (u64, Yard)> {
     let yards = (first..first + count).map(|seed| (seed, gen::accepted(seed)));
     yards.filter(|(_, yard)| yard.labelling.len() <= 2_000)
 }
 
-fn branches(yard: &Yard) -> Vec<u8> {
+/// The standing bytes where all loops are gone.
+pub fn branches(yard: &Yard) -> Vec<u8> {
     let labels = yard.labelling.iter();
     labels.map(|label| (*label == 0) as u8).collect()
 }
@@ -96,7 +105,7 @@ pub fn lists_against_the_plain_set(remove: Remove, first: u64) {
             );
         }
     }
-    trial.saw(&[(0, 0), (51, 0), (52, 2)], 300, 20_000);
+    trial.seen.are(&[(0, 0), (51, 0), (52, 2)], 300, 20_000);
 }
 
 /// The branches are left, and no endless path.
@@ -136,6 +145,50 @@ pub fn orders_of_all_loops(remove: Remove, first: u64) {
     );
 }
 
+/// Damage to chart and labels now and then, and standing bytes of all kinds.
+pub fn damage(rng: &mut Rng, yard: &mut Yard) -> Vec<u8> {
+    if rng.percent(10) {
+        let at = rng.below(yard.chart.len());
+        yard.chart[at] = rng.word() as u8;
+    }
+    if rng.percent(5) {
+        yard.labelling.push(1);
+    }
+    if rng.percent(40) && !yard.labelling.is_empty() {
+        for _ in 0..rng.between(1, 4) {
+            let at = rng.below(yard.labelling.len());
+            yard.labelling[at] = rng.below(4) as u8;
+        }
+    }
+    let mut standing = vec![1; yard.labelling.len()];
+    if rng.percent(60) {
+        let gone = rng.pick(&[5, 20, 50]);
+        for byte in &mut standing {
+            *byte = !rng.percent(gone) as u8;
+        }
+    }
+    match rng.below(30) {
+        0 if !standing.is_empty() => {
+            let at = rng.below(standing.len());
+            standing[at] = rng.pick(&[2, 3, 128, 255]);
+        }
+        1 => standing.push(1),
+        2 => drop(standing.pop()),
+        _ => {}
+    }
+    standing
+}
+
+/// The loops of a labelled chart; none where chart or labels are refused.
+pub fn loops_of(yard: &Yard) -> Vec<Loop> {
+    match Chart::read(&yard.chart) {
+        Ok(chart) if chart.transitions.len() == yard.labelling.len() => {
+            plain::loops(&chart, &yard.labelling).into_iter().collect()
+        }
+        _ => vec![],
+    }
+}
+
 /// Damaged charts, labels and standing bytes, loops or not.
 pub fn any_bytes(remove: Remove, first: u64) {
     let mut trial = Trial::of(remove);
@@ -145,41 +198,8 @@ pub fn any_bytes(remove: Remove, first: u64) {
         if yard.labelling.len() > 1_000 {
             continue;
         }
-        if rng.percent(10) {
-            let at = rng.below(yard.chart.len());
-            yard.chart[at] = rng.word() as u8;
-        }
-        if rng.percent(5) {
-            yard.labelling.push(1);
-        }
-        if rng.percent(40) && !yard.labelling.is_empty() {
-            for _ in 0..rng.between(1, 4) {
-                let at = rng.below(yard.labelling.len());
-                yard.labelling[at] = rng.below(4) as u8;
-            }
-        }
-        let mut standing = vec![1; yard.labelling.len()];
-        if rng.percent(60) {
-            let gone = rng.pick(&[5, 20, 50]);
-            for byte in &mut standing {
-                *byte = !rng.percent(gone) as u8;
-            }
-        }
-        match rng.below(30) {
-            0 if !standing.is_empty() => {
-                let at = rng.below(standing.len());
-                standing[at] = rng.pick(&[2, 3, 128, 255]);
-            }
-            1 => standing.push(1),
-            2 => drop(standing.pop()),
-            _ => {}
-        }
-        let loops: Vec<(usize, u8)> = match Chart::read(&yard.chart) {
-            Ok(chart) if chart.transitions.len() == yard.labelling.len() => {
-                plain::loops(&chart, &yard.labelling).into_iter().collect()
-            }
-            _ => vec![],
-        };
+        let mut standing = damage(&mut rng, &mut yard);
+        let loops = loops_of(&yard);
         for _ in 0..4 {
             let pair = if loops.is_empty() {
                 (rng.below(5) as u64, rng.below(3) as u64)
@@ -192,22 +212,32 @@ pub fn any_bytes(remove: Remove, first: u64) {
     }
     let all = [20, 21, 30, 50, 51].map(|n| (n, 0));
     let all = [&[(0, 0)], &all[..], &[(52, 1), (52, 2), (52, 3)]].concat();
-    trial.saw(&all, 20, 20_000);
+    trial.seen.are(&all, 20, 20_000);
 }
 
-/// Document 01's chart of two loops with these labels; all else plays no part.
-fn labelled(labels: [u8; 4]) -> Yard {
+/// A labelled chart; all else plays no part.
+pub fn labelled(chart: &Chart, labels: &[u8]) -> Yard {
     Yard {
-        chart: two_loops().bytes(),
+        chart: chart.bytes(),
         labelling: labels.to_vec(),
         ..g()
     }
 }
 
+/// Each labelling of document 01's chart of two loops with 0 to 2, and each part
+/// of it that stands.
+pub fn small_charts() -> impl Iterator<Item = (Yard, [u8; 4])> {
+    let labels = (0..81).map(|label| [1, 3, 9, 27].map(|place| label / place % 3));
+    labels.flat_map(|labels| {
+        let parts = (0..16).map(|stands| [1, 2, 4, 8].map(|place| stands / place % 2));
+        parts.map(move |standing| (labelled(&two_loops(), &labels), standing))
+    })
+}
+
 /// Document 01's list.
 pub fn loop_inside_a_loop(remove: Remove) {
     let mut trial = Trial::of(remove);
-    let yard = labelled([2, 0, 1, 0]);
+    let yard = labelled(&two_loops(), &[2, 0, 1, 0]);
     let mut standing = [1; 4];
     for (pair, answer, left) in [
         ((1, 2), Answer::new(52, 1, 2, 2), [1, 1, 1, 1]),
@@ -220,22 +250,31 @@ pub fn loop_inside_a_loop(remove: Remove) {
     }
 }
 
-/// Each labelling of that chart with 0 to 2, each part of it that stands, and
-/// each pair up to 3.
+/// Each part of each labelling, and each pair up to 3.
 pub fn all_of_a_small_chart(remove: Remove) {
     let mut trial = Trial::of(remove);
-    for label in 0..81 {
-        let yard = labelled([1, 3, 9, 27].map(|place| label / place % 3));
-        for stands in 0..16 {
-            for pair in 0..16 {
-                let mut standing = [1, 2, 4, 8].map(|place| stands / place % 2);
-                let pair = (pair / 4, pair % 4);
-                trial.call(&yard, pair, &mut standing, &"a small chart");
-            }
+    for (yard, standing) in small_charts() {
+        for pair in 0..16 {
+            let mut standing = standing;
+            let pair = (pair / 4, pair % 4);
+            trial.call(&yard, pair, &mut standing, &"a small chart");
         }
     }
     let all = [(0, 0), (51, 0), (52, 1), (52, 2), (52, 3)];
-    trial.saw(&all, 20, 81 * 16 * 16);
+    trial.seen.are(&all, 20, 81 * 16 * 16);
+}
+
+/// The entries of each loop, by level and then vertex: whatever is inside a body
+/// is of lower level.
+pub fn entries_by_level(yard: &Yard) -> BTreeMap<(u8, u8), Vec<usize>> {
+    let mut entries: BTreeMap<(u8, u8), Vec<usize>> = BTreeMap::new();
+    for (index, &level) in yard.labelling.iter().enumerate() {
+        if level != 0 {
+            let loop_at = (level, yard.chart[4 + 4 * index]);
+            entries.entry(loop_at).or_default().push(index);
+        }
+    }
+    entries
 }
 
 /// The worst files lose all their loops, after some calls in any order.
@@ -246,17 +285,9 @@ pub fn worst_files(remove: Remove) {
         for pair in gen::lists::removals(&mut Rng::new(9), &yard, files(30) as usize) {
             trial.call(&yard, pair, &mut vec![1; count], &name);
         }
-        let mut entries: BTreeMap<(u8, u8), Vec<usize>> = BTreeMap::new();
-        for (index, &level) in yard.labelling.iter().enumerate() {
-            if level != 0 {
-                // By level: whatever is inside a body is of lower level.
-                let loop_at = (level, yard.chart[4 + 4 * index]);
-                entries.entry(loop_at).or_default().push(index);
-            }
-        }
         let mut standing = vec![1; count];
         let mut wanted = standing.clone();
-        for ((level, v), indices) in entries {
+        for ((level, v), indices) in entries_by_level(&yard) {
             let pair = (v as u64, level as u64);
             let answer = remove(&yard.chart, &yard.labelling, pair.0, pair.1, &mut standing);
             for index in indices {
@@ -281,5 +312,7 @@ pub fn at_the_limits(remove: Remove) {
         };
         trial.call(&yard, pair, &mut removal.standing, &name);
     }
-    trial.saw(&[(0, 0), (51, 0), (52, 1), (52, 2), (52, 3)], 1, 8);
+    trial
+        .seen
+        .are(&[(0, 0), (51, 0), (52, 1), (52, 2), (52, 3)], 1, 8);
 }

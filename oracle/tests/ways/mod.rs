@@ -2,13 +2,12 @@
 //! lent bytes of every length that matters. Where there are too many sets for
 //! the plain one, against its definition alone.
 #![allow(dead_code)]
-use crate::common::{chart, damage_chart, files, g, long_state, some_state};
+use crate::common::{chart, damage_chart, files, g, long_state, some_state, Seen};
 use oracle::gen::charts::{renamed, shuffled};
 use oracle::gen::lists::{events, Call};
 use oracle::gen::{self, Rng};
 use oracle::plain::{self, Chart, State};
 use oracle::{Answer, TAKEN};
-use std::collections::BTreeMap;
 use std::fmt::Display;
 
 /// Takes a chart, a state and lent bytes.
@@ -135,12 +134,12 @@ fn in_bytes(lent: usize, found: &Found) -> Found {
 /// A call that is tried, and how often it gave each number.
 pub struct Trial {
     way: Way,
-    seen: BTreeMap<u64, u64>,
+    seen: Seen<u64>,
 }
 
 impl Trial {
     pub fn of(way: Way) -> Trial {
-        let seen = BTreeMap::new();
+        let seen = Seen::default();
         Trial { way, seen }
     }
 
@@ -159,7 +158,7 @@ impl Trial {
             gen::hex(&before),
             gen::hex(&out)
         );
-        *self.seen.entry(answer.n).or_default() += 1;
+        self.seen.note(answer.n);
         out.truncate(length);
         (answer, out)
     }
@@ -203,15 +202,6 @@ impl Trial {
             assert_eq!(other, in_bytes(lent, &found), "{origin}");
         }
         found
-    }
-
-    /// Just these numbers were answered, each so often at least, and so many in
-    /// all.
-    fn saw(&self, numbers: &[u64], each: u64, all: u64) {
-        let seen = &self.seen;
-        assert!(seen.keys().eq(numbers), "{seen:?}");
-        assert!(seen.values().all(|times| *times >= each), "{seen:?}");
-        assert!(seen.values().sum::<u64>() >= all, "{seen:?}");
     }
 }
 
@@ -278,7 +268,7 @@ pub fn random_charts(way: Way, first: u64) {
         }
     }
     assert!(longest >= 6, "{longest}");
-    trial.saw(&[0, 53, 54, 55], 1_000, 40_000);
+    trial.seen.are(&[0, 53, 54, 55], 1_000, 40_000);
 }
 
 /// A chart body of at most 20 vertices and 120 transitions: the plain search has
@@ -316,7 +306,7 @@ pub fn accepted_files(way: Way, first: u64) {
         }
     }
     assert!(large >= files(500), "{large}");
-    trial.saw(&[0, 54, 55], 1_000, 20_000);
+    trial.seen.are(&[0, 54, 55], 1_000, 20_000);
 }
 
 /// Damaged charts and any states.
@@ -338,7 +328,7 @@ pub fn any_bytes(way: Way, first: u64) {
         let state = some_state(&mut rng, &chart);
         trial.lengths(&chart, &state, &seed);
     }
-    trial.saw(&[0, 20, 21, 53, 54, 55], 500, 15_000);
+    trial.seen.are(&[0, 20, 21, 53, 54, 55], 500, 15_000);
 }
 
 /// Two vertices and the end: each chart with two actions, and each set.
@@ -358,7 +348,7 @@ pub fn all_small_charts(way: Way) {
             trial.lengths(&chart, &set.to_le_bytes(), &format!("{steps:?}"));
         }
     }
-    trial.saw(&[0, 54, 55], 1_000, 4_096 * 7 * 4);
+    trial.seen.are(&[0, 54, 55], 1_000, 4_096 * 7 * 4);
 }
 
 /// Over a chart of four vertices each set of eight, each single vertex of 128,
@@ -373,7 +363,7 @@ pub fn all_states_of_a_small_chart(way: Way) {
     for state in states {
         trial.lengths(&chart, &state, &"a small chart");
     }
-    trial.saw(&[0, 53, 54, 55], 5, 424 * 4);
+    trial.seen.are(&[0, 53, 54, 55], 5, 424 * 4);
 }
 
 /// The end in the set: no event, also in no bytes, whatever else is there.
@@ -384,7 +374,7 @@ pub fn at_the_end(way: Way) {
             assert_eq!(trial.lengths(&chart, &state, &"the end"), way_of(&[]));
         }
     }
-    trial.saw(&[0], 16, 16);
+    trial.seen.are(&[0], 16, 16);
 }
 
 /// The lists of single states: document 01's G and the chart of two loops, then
@@ -500,5 +490,5 @@ pub fn at_the_limits(way: Way) {
             trial.measured(&on, state_of(vertices), &name);
         }
     }
-    trial.saw(&[0, 54, 55], 300, 1_500);
+    trial.seen.are(&[0, 54, 55], 300, 1_500);
 }
