@@ -1,5 +1,5 @@
-/* stack check FILE.., stack removal FILE.., stack follower FILE.. or stack way FILE..: how many bytes of stack the call
- * uses. The call on each file named is made on a thread of 128 KiB whose stack was filled with a pattern. */
+/* stack check FILE.., and so with removal, together, follower or way: how many bytes of stack the call uses. The call on
+ * each file named is made on a thread of 128 KiB whose stack was filled with a pattern. */
 #include "sequence.h"
 #include <pthread.h>
 #include <stdio.h>
@@ -22,6 +22,16 @@ static void *removal(void *nothing) {
     size_t count = chart[2] + 256u * chart[3];
     unsigned char *labels = chart + 4 + 4 * count;
     seq_remove(chart, 4 + 4 * count, labels, count, file[0], file[1], labels + count, count);
+    return nothing;
+}
+
+/* The file has the length of the list of loops and the list, then the chart, the labels and the standing bytes. */
+static void *together(void *nothing) {
+    unsigned char *loops = file + 1;
+    unsigned char *chart = loops + file[0];
+    size_t count = chart[2] + 256u * chart[3];
+    unsigned char *labels = chart + 4 + 4 * count;
+    seq_remove_together(chart, 4 + 4 * count, labels, count, loops, file[0], labels + count, count);
     return nothing;
 }
 
@@ -48,12 +58,14 @@ static void *way(void *nothing) {
 
 int main(int count, char **names) {
     if (count < 3) {
-        fprintf(stderr, "stack check|removal|follower|way FILE..\n");
+        fprintf(stderr, "stack check|removal|together|follower|way FILE..\n");
         return 2;
     }
     void *(*call)(void *) = check;
     if (strcmp(names[1], "removal") == 0)
         call = removal;
+    else if (strcmp(names[1], "together") == 0)
+        call = together;
     else if (strcmp(names[1], "follower") == 0)
         call = follower;
     else if (strcmp(names[1], "way") == 0)
