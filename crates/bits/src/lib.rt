@@ -78,12 +78,15 @@ pub fn highest_byte(bytes: &[u8]) -> usize
     top as usize
 }
 
+// What each bit of a byte is worth, bit 0 first; in hex, to be read beside a hex dump (document 02, C-13).
+const BIT_VALUES: [u8; 8] = [0x01, 0x02, 0x04, 0x08, 0x10, 0x20, 0x40, 0x80];
+
 // What bit i of a byte is worth.
 pub fn value(i: usize) -> usize
     requires { ⌜ i < 8 ⌝ }
     ensures { λ r. ⌜ r ≡ 2 ^ i ⌝ }
 {
-    1 << i
+    BIT_VALUES[i] as usize
 }
 
 // The byte with bit i too.
