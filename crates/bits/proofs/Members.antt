@@ -168,6 +168,10 @@ less-law s u t f g y = (
       (λ (o, n). w .1 (o, λ z. n (omega (arith, h, l, z)))),
     )
 
+-- where no number below 128 is the lowest, the set is empty
+pub lowest-empty : {s : Set} {u : ℕ} → First (Has s) 0 128 u → 128 ≤ u → Empty s
+lowest-empty F h w g = F .before w (omega arith) (omega (arith, h, g .below)) g
+
 -- without the lowest number: in the first word, or in the second where there is none in the first
 pub rest-low : (s : Set) {r : ℕ} → s .lo ≢ 0 → s .lo < 2 ^ 64 → ((k : ℕ) → LowestOn (s .lo) k → Without (s .lo) k r)
     → (u : ℕ) → First (Has s) 0 128 u → (y : ℕ) → Has (record { lo = r; hi = s .hi }) y ↔ (Has s y × (y ≢ u))
@@ -201,10 +205,7 @@ rest-high s {r} e some W u F =
     off j on = zero-off j (subst (λ (x : ℕ). On x j) e on)
 
     within : u < 128
-    within = elim (decLt u 128) [
-      | yes h ↦ h
-      | no h ↦ absurd (some (λ w g. F .before w (omega arith) (omega (arith, h, g .below)) g))
-    ]
+    within = elim (decLt u 128) [ yes h ↦ h | no h ↦ absurd (some (lowest-empty F (omega (arith, h)))) ]
 
     high : 64 ≤ u
     high = elim (decLt u 64) [ yes h ↦ absurd (off u (has-low s u h (F .holds within))) | no h ↦ omega (arith, h) ]

@@ -1,10 +1,10 @@
 -- Going over the members of a set, the lowest first: what they are related to, and the set written as bytes by it.
-use Prim.Native.Nat.{ℕ, _+_, _*_, _/_, _%_, _<_}
+use Prim.Native.Nat.{ℕ, _+_, _*_, _/_, _%_, _≤_, _<_}
 use mathlib.Core.Path.{_≡_, refl, sym, _∙_, subst}
 use mathlib.Core.Logic.{_≢_, _⊎_, inl, inr, ⊎-elim, _↔_, by-cases}
 use mathlib.Core.Bool.{Bool, true, not, true≢false}
 use mathlib.Core.List.{List}
-use native.Mathlib.Decide.{ℕ-discrete, decLt}
+use native.Mathlib.Decide.{ℕ-discrete}
 use native.Mathlib.Omega.{arith}
 use lib.ListN.{length, getD, set, length-set, replicate}
 use lib.Seq.{getD-set-same, getD-set-other, ext-getD}
@@ -14,7 +14,7 @@ use Rattle.bits.specs.First.{First}
 use Rattle.bits.specs.Words.{On, With}
 use Rattle.bits.specs.Sets.{Has, emptySet, Empty, Members, Union, sizeOf, BytesOf}
 use Rattle.bits.proofs.Gains.{blank}
-use Rattle.bits.proofs.Members.{⊎-map, none, size-lt, zero-off, same-word}
+use Rattle.bits.proofs.Members.{⊎-map, none, lowest-empty, size-lt, zero-off, same-word}
 use Rattle.bits.proofs.Words.{bit-below}
 
 -- u is left of the set s, and then `fewer` is left
@@ -26,26 +26,35 @@ pub record Visit (s left : Set) (u : ℕ) (fewer : Set) : Type 0 where
 pub visit-less : {s left fewer : Set} {u : ℕ} → Visit s left u fewer → sizeOf fewer < sizeOf left
 visit-less {left = left} {fewer} {u} T = size-lt fewer left u (λ y h. T .rest y .0 h .0) (T .has) (λ h. T .rest u .0 h .1 refl)
 
--- what is left after it is of the set too
-pub visit-within : {s left fewer : Set} {u : ℕ} → Visit s left u fewer → (x : ℕ) → Has fewer x → Has s x
-visit-within T x h = T .within x (T .rest x .0 h .0)
-
 -- where the test for nothing fails, something is there
 pub not-empty : {s : Set} {b : Bool} → (b ≡ true) ↔ Empty s → not b ≡ true → ¬ Empty s
 not-empty E n e = true≢false (sym (E .1 e) ∙ not-true _ n)
 
--- where something is left, the lowest is
-pub found : {left : Set} {u : ℕ} {b : Bool} → (b ≡ true) ↔ Empty left → not b ≡ true → First (Has left) 0 128 u → Has left u
-found {left} {u} E n F = by-cases (decLt u 128)
-    (λ h. F .holds h)
-    (λ h. absurd (not-empty E n (λ w g. F .before w (omega arith) (omega (arith, h, g .below)) g)))
+-- what is left of the set s, and v the lowest of it, or 128
+pub record Left (s left : Set) (v : ℕ) : Type 0 where
+  pub within : (x : ℕ) → Has left x → Has s x
+  pub lowest : First (Has left) 0 128 v
 
--- and has its turn
-pub visit-next : {s left fewer : Set} {u : ℕ} {b : Bool} → ((x : ℕ) → Has left x → Has s x) → (b ≡ true) ↔ Empty left
-    → not b ≡ true → First (Has left) 0 128 u
-    → ((v : ℕ) → First (Has left) 0 128 v → (y : ℕ) → Has fewer y ↔ (Has left y × (y ≢ v)))
-    → Visit s left u fewer
-visit-next w E n F W = record { within = w; has = found E n F; rest = W _ F }
+-- at first all is left
+pub left-all : {s : Set} {v : ℕ} → First (Has s) 0 128 v → Left s s v
+left-all F = record { within = λ x h. h; lowest = F }
+
+-- the lowest has its turn
+pub left-next : {s left fewer : Set} {v : ℕ} → Left s left v → v < 128
+    → ((u : ℕ) → First (Has left) 0 128 u → (y : ℕ) → Has fewer y ↔ (Has left y × (y ≢ u)))
+    → Visit s left v fewer
+left-next L h W = record { within = L .within; has = L .lowest .holds h; rest = W _ (L .lowest) }
+
+-- and what is left after it is of the set too
+pub left-after : {s left fewer : Set} {v u : ℕ} → Visit s left v fewer → First (Has fewer) 0 128 u → Left s fewer u
+left-after T F = record { within = λ x h. T .within x (T .rest x .0 h .0); lowest = F }
+
+-- something is left below 128, and nothing at 128
+pub left-some : {s left : Set} {v : ℕ} → Left s left v → v < 128 → ¬ Empty left
+left-some {v = v} L h e = e v (L .lowest .holds h)
+
+pub left-none : {s left : Set} {v : ℕ} → Left s left v → 128 ≤ v → Empty left
+left-none L h = lowest-empty (L .lowest) h
 
 -- w is related to a member of the set that is left no longer
 pub record FromPast (R : ℕ → ℕ → Type 0) (s left : Set) (w : ℕ) : Type 0 where

@@ -204,11 +204,12 @@ pub fn set_bytes(set: Set) -> [u8; 16]
 {
     let mut bytes = [0u8; 16];
     let mut left = set;
-    while !left.is_empty() {
-        let v = left.lowest();
+    let mut v = left.lowest();
+    while v < 128 {
         let at = v / 8;
         bytes[at] = with_value(bytes[at], v % 8);
         left = left.without_lowest();
+        v = left.lowest();
     }
     bytes
 }

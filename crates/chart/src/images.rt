@@ -57,10 +57,11 @@ pub fn image(body: &[u8], begins: &[usize; 129], set: Set, action: usize) -> Set
 {
     let mut targets = Set::empty();
     let mut left = set;
-    while !left.is_empty() {
-        let u = left.lowest();
+    let mut u = left.lowest();
+    while u < 128 {
         targets = targets.union(action_row(body, begins, u, action));
         left = left.without_lowest();
+        u = left.lowest();
     }
     targets
 }
@@ -93,10 +94,11 @@ pub fn lowest_into(body: &[u8], begins: &[usize; 129], set: Set, aim: Set) -> us
 {
     let mut best: usize = 256;
     let mut left = set;
-    while !left.is_empty() {
-        let u = left.lowest();
+    let mut u = left.lowest();
+    while u < 128 {
         best = lowest_of_row(body, begins, u, aim, best);
         left = left.without_lowest();
+        u = left.lowest();
     }
     best
 }
@@ -126,10 +128,11 @@ pub fn offered(body: &[u8], begins: &[usize; 129], set: Set) -> [u8; 256]
 {
     let mut marks = [0u8; 256];
     let mut left = set;
-    while !left.is_empty() {
-        let u = left.lowest();
+    let mut u = left.lowest();
+    while u < 128 {
         mark_row(body, begins, u, &mut marks);
         left = left.without_lowest();
+        u = left.lowest();
     }
     marks
 }

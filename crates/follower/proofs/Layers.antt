@@ -15,7 +15,7 @@ use Rattle.bits.specs.Sets.{Has, emptySet, Empty, Members, Union, Difference}
 use Rattle.bits.specs.Tables.{rowOf, HasRow, putRow}
 use Rattle.bits.proofs.Members.{has?}
 use Rattle.bits.proofs.Gains.{put-long, put-here, put-other}
-use Rattle.bits.proofs.Visits.{Visit, visit-within, FromPast, visits-none, visits-more, visits-all}
+use Rattle.bits.proofs.Visits.{Visit, FromPast, visits-none, visits-more, visits-all}
 use Rattle.chart.specs.Bodies.{verticesOf, WellFormed}
 use Rattle.chart.specs.Images.{LeadsTo}
 use Rattle.follower.specs.Layers.{actsChart, SomeEnds, ReadRows, Layered}
@@ -23,7 +23,6 @@ use Rattle.follower.specs.Layers.{actsChart, SomeEnds, ReadRows, Layered
 -- THE TARGETS OF A LAYER: of its vertices that are left no longer
 pub record Reading (b : List ℕ) (layer left : Set) (before : List ℕ) (all : Set) (rows : List ℕ) : Type 0 where
   pub long : length rows ≡ 256
-  pub within : (x : ℕ) → Has left x → Has layer x
   pub gathered : Members (FromPast (LeadsTo b) layer left) all
   pub each : (u : ℕ) → Has layer u → ¬ Has left u → Members (LeadsTo b u) (rowOf rows u)
   pub others : (u : ℕ) → ¬ Has layer u → rowOf rows u ≡ rowOf before u
@@ -33,7 +32,6 @@ module _ {b : List ℕ} {layer : Set} where
       → Reading b layer layer rows none-yet rows
   reading-none l e = record {
     long = l;
-    within = λ x h. h;
     gathered = visits-none e;
     each = λ u h n. absurd (n h);
     others = λ u n. refl;
@@ -45,7 +43,6 @@ module _ {b : List ℕ} {layer : Set} where
   reading-more {fewer = fewer} {targets = targets} {more = more} {u = u} {before = before} {rows = rows} R T Q P U =
       subst (Reading b layer fewer before more) (sym P) (record {
         long = put-long rows u targets ∙ R .long;
-        within = visit-within T;
         gathered = visits-more T (R .gathered) Q U;
         each = λ v h n. by-cases (ℕ-discrete v u)
             (λ e. rw (e, put-here rows u targets fits) Q)

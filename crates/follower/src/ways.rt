@@ -30,12 +30,13 @@ fn read_rows(chart: &[u8], begins: &[usize; 129], layer: Set, rows: &mut [u64; 2
 {
     let mut all = Set::empty();
     let mut left = layer;
-    while !left.is_empty() {
-        let u = left.lowest();
+    let mut u = left.lowest();
+    while u < 128 {
         let targets = target_row(chart, begins, u);
         put_row(rows, u, targets);
         all = all.union(targets);
         left = left.without_lowest();
+        u = left.lowest();
     }
     all
 }
@@ -78,11 +79,12 @@ fn leading(rows: &[u64; 256], layer: Set, aim: Set) -> Set
 {
     let mut kept = Set::empty();
     let mut left = layer;
-    while !left.is_empty() {
-        let u = left.lowest();
+    let mut u = left.lowest();
+    while u < 128 {
         let met = row(rows, u).intersection(aim);
         kept = kept.with_if(u, !met.is_empty());
         left = left.without_lowest();
+        u = left.lowest();
     }
     kept
 }

@@ -1,57 +1,54 @@
 use borrow.Author.Needs.{needs}
 use mathlib.Core.Path.{_≡_}
 use Prim.Native.Nat.{ℕ}
-use borrow.Author.Tests.{not-false}
 use Rattle.report.specs.declared.Stage.the-variants as Stage
 use Rattle.bits.specs.First.{First}
-use Rattle.bits.specs.Sets.{Has, sizeOf}
+use Rattle.bits.specs.Sets.{sizeOf}
 use Rattle.chart.specs.Checks.{checkOf}
 use Rattle.chart.specs.Leaving.{Begins}
 use Rattle.chart.specs.Images.{ActsInto}
-use Rattle.bits.proofs.Visits.{not-empty, found, visit-next, visit-less, visit-within, FromPast}
+use Rattle.bits.proofs.Visits.{visit-less, Left, left-all, left-next, left-after, left-some, left-none, FromPast}
 use Rattle.chart.proofs.Lowest.{leads-none, leads-more, leads-all}
 use Rattle.chart.proofs.images.lowest_into.Statement.{statement}
 use Rattle.chart.proofs.images.lowest_into.Tie as tie
 
 abbrev Inv-loop : tie.InvT-loop
-Inv-loop body begins aim best₀ left₀ best left =
-    (checkOf body ≡ Stage.Passed) × Begins body begins × ((x : ℕ) → Has left x → Has left₀ x)
+Inv-loop body begins aim best₀ left₀ u₀ best left u =
+    (checkOf body ≡ Stage.Passed) × Begins body begins × Left left₀ left u
     × First (FromPast (λ (u a : ℕ). ActsInto body u aim a) left₀ left) 0 256 best
 
 abbrev μ-loop : tie.MeasureT-loop
-μ-loop body begins aim best₀ left₀ best left = sizeOf left
-
-loop-holds : tie.Need-loop-holds Inv-loop μ-loop
-loop-holds c = let p = c .before .pre in (p .0, p .1, λ x h. h, leads-none)
-
-is-empty-requires : tie.Need-is-empty-requires Inv-loop μ-loop
-is-empty-requires c κs = search needs
+μ-loop body begins aim best₀ left₀ u₀ best left u = sizeOf left
 
 lowest-requires : tie.Need-lowest-requires Inv-loop μ-loop
 lowest-requires c κs = search needs
 
+loop-holds : tie.Need-loop-holds Inv-loop μ-loop
+loop-holds c = let p = c .before .before .pre in (p .0, p .1, left-all (c .lowest .ensures), leads-none)
+
 lowest-of-row-requires : tie.Need-lowest-of-row-requires Inv-loop μ-loop
-lowest-of-row-requires c κs =
-    let i = c .before .before .before .loop .inv in
-    (i .0, i .1, found (c .before .before .is-empty .ensures) (c .before .if1 .taken) (c .lowest .ensures) .below)
+lowest-of-row-requires c κs = let i = c .before .loop .inv in (i .0, i .1, c .loop-test .taken)
 
 without-lowest-requires : tie.Need-without-lowest-requires Inv-loop μ-loop
-without-lowest-requires c κs = not-empty (c .before .before .before .is-empty .ensures) (c .before .before .if1 .taken)
+without-lowest-requires c κs = let t = c .before in left-some (t .before .loop .inv .2) (t .loop-test .taken)
+
+lowest-requires-2 : tie.Need-lowest-requires-2 Inv-loop μ-loop
+lowest-requires-2 c κs = search needs
 
 loop-less : tie.Need-loop-less Inv-loop μ-loop
 loop-less c =
-    visit-less (visit-next (c .before .before .before .before .before .loop .inv .2) (c .before .before .before .before .is-empty .ensures)
-    (c .before .before .before .if1 .taken) (c .before .before .lowest .ensures) (c .without-lowest .ensures))
+    let t = c .before .before .before in
+    visit-less (left-next (t .before .loop .inv .2) (t .loop-test .taken) (c .before .without-lowest .ensures))
 
 loop-again : tie.Need-loop-again Inv-loop μ-loop
 loop-again c =
-    let i = c .before .before .before .before .before .loop .inv in
-    let T = visit-next (i .2) (c .before .before .before .before .is-empty .ensures)
-    (c .before .before .before .if1 .taken) (c .before .before .lowest .ensures) (c .without-lowest .ensures) in
-    (i .0, i .1, visit-within T, leads-more T (i .3) (c .before .lowest-of-row .ensures))
+    let t = c .before .before .before in
+    let i = t .before .loop .inv in
+    let T = left-next (i .2) (t .loop-test .taken) (c .before .without-lowest .ensures) in
+    (i .0, i .1, left-after T (c .lowest2 .ensures), leads-more T (i .3) (c .before .before .lowest-of-row .ensures))
 
 returns : tie.Need-returns Inv-loop μ-loop
-returns c = leads-all (c .before .is-empty .ensures .0 (not-false _ (c .if1 .left))) (c .before .before .loop .inv .3)
+returns c = let i = c .before .loop .inv in leads-all (left-none (i .2) (c .loop-test .left)) (i .3)
 
 pub lowest-into-spec : {M : Type 1} → statement M
 lowest-into-spec =
@@ -59,11 +56,11 @@ lowest-into-spec =
     (tie.spec
     Inv-loop
     μ-loop
-    loop-holds
-    is-empty-requires
     lowest-requires
+    loop-holds
     lowest-of-row-requires
     without-lowest-requires
+    lowest-requires-2
     loop-less
     loop-again
     returns)
