@@ -8,9 +8,10 @@
 //!   proved removals of its loops one after another.
 //! * `bench stages` prints such a row for the files of the mixed corpus that have the same number in
 //!   their answer.
-//! * `bench calls WHO FILE COUNT` makes the call of a file COUNT times, for callgrind to count.
+//! * `bench calls WHO FILE COUNT` makes the call of a file COUNT times, for callgrind to count, or
+//!   those of a corpus one after another.
 //! * `bench write FOLDER` writes the named files, removals, lists of loops, calls of the follower and
-//!   shortest ways.
+//!   shortest ways, and the corpora.
 use oracle::gen::lists;
 use oracle::gen::worst::{self, FollowerCall, Removal, TogetherCall, WayCall};
 use oracle::gen::{self, Yard};
@@ -18,7 +19,7 @@ use oracle::{fast, Answer};
 use std::collections::BTreeMap;
 use std::hint::black_box;
 use std::time::Instant;
-use std::{env, fs, process};
+use std::{env, fs, iter, process};
 
 #[path = "../../oracle/tests/proved/mod.rs"]
 mod proved;
@@ -112,15 +113,18 @@ impl Call {
         }
     }
 
-    fn read(path: &str) -> Call {
+    /// The one call of a file, or those of a corpus.
+    fn read(path: &str) -> Vec<Call> {
         let file = fs::read(path).expect("a file");
-        match path.rsplit('.').next() {
+        let call = match path.rsplit('.').next() {
+            Some("corpus") => return files_of(&file).map(Call::Check).collect(),
             Some("removal") => Call::read_removal(&file),
             Some("together") => Call::read_together(&file),
             Some("follower") => Call::read_follow(&file),
             Some("way") => Call::read_way(&file),
             _ => Call::Check(file),
-        }
+        };
+        vec![call]
     }
 
     fn read_follow(file: &[u8]) -> Call {
@@ -173,6 +177,22 @@ fn marked_chart(bytes: &[u8]) -> [Vec<u8>; 3] {
     let (chart, marks) = bytes.split_at(4 + 4 * count);
     let (labels, standing) = marks.split_at(count);
     [chart, labels, standing].map(<[u8]>::to_vec)
+}
+
+/// The files of a corpus, each with its length in four bytes before it.
+fn files_of(mut corpus: &[u8]) -> impl Iterator<Item = Vec<u8>> + '_ {
+    iter::from_fn(move || {
+        let (length, rest) = corpus.split_first_chunk()?;
+        let (file, others) = rest.split_at(u32::from_le_bytes(*length) as usize);
+        corpus = others;
+        Some(file.to_vec())
+    })
+}
+
+fn corpus_of(calls: &[Call]) -> Vec<u8> {
+    let files = calls.iter().map(Call::bytes);
+    let with_length = |file: Vec<u8>| [&(file.len() as u32).to_le_bytes()[..], &file].concat();
+    files.flat_map(with_length).collect()
 }
 
 /// One of the two that are measured.
@@ -258,6 +278,8 @@ const RUNS: usize = 31;
 /// Seconds that one side is timed for in one run, at least.
 const SPAN: f64 = 0.02;
 const MIXED: u64 = 2_000;
+/// No file is longer in the corpus of small ones.
+const SMALL: usize = 800;
 
 /// The yard with one transition more, in its place.
 fn with_transition(mut yard: Yard, transition: [u8; 3], label: u8) -> Yard {
@@ -294,10 +316,26 @@ fn with_empty_row(yard: Yard) -> Yard {
     latest
 }
 
-/// Files at document 01's limits: accepted ones, each hard on one stage of the check, and some that
-/// are refused at the end of such a stage.
+/// Document 01's file G and that of the weighbridge, as they stand in the examples.
+const EXAMPLES: [(&str, &[u8]); 2] = [
+    ("G", include_bytes!("../../examples/g.yard")),
+    (
+        "weighbridge",
+        include_bytes!("../../examples/weighbridge.yard"),
+    ),
+];
+
+/// The examples, and files at document 01's limits: accepted ones, each hard on one stage of the
+/// check, and some that are refused at the end of such a stage.
 fn named() -> Vec<(String, Call)> {
+    let mut calls = calls_of(EXAMPLES.to_vec(), |file| Call::Check(file.to_vec()));
+    calls.extend(calls_of(yards(), |yard| Call::Check(yard.file())));
+    calls
+}
+
+fn yards() -> Vec<(&'static str, Yard)> {
     let mut yards = worst::all();
+    yards.push(("refused 21", with_last_action(worst::full_relation(), 0)));
     yards.push((
         "refused 32",
         with_transition(worst::many_vertices(), [127, 1, 127], 0),
@@ -311,9 +349,14 @@ fn named() -> Vec<(String, Call)> {
         let more = with_transition(worst::thousands_of_loops(), [103, 48, to], 49);
         yards.push((name, more));
     }
+    // A loop at vertex 126, which the last loop of that file, (127, 253), leads to.
+    yards.push((
+        "refused 35 in dense layers",
+        with_transition(worst::dense_layers(), [126, 2, 126], 255),
+    ));
     yards.push(("refused 44", with_empty_row(worst::full_relation())));
     yards.push(("refused 45", with_last_action(worst::full_relation(), 2)));
-    calls_of(yards, |yard| Call::Check(yard.file()))
+    yards
 }
 
 fn removals() -> Vec<(String, Call)> {
@@ -410,6 +453,21 @@ fn mixed() -> impl Iterator<Item = Vec<u8>> {
     (0..MIXED).map(gen::file)
 }
 
+/// Small files of the mixed corpus, all of them accepted.
+fn small() -> impl Iterator<Item = Vec<u8>> {
+    mixed().filter(|file| file.len() <= SMALL && !fast::check(file).is_refusal())
+}
+
+fn corpora() -> Vec<(String, Vec<Call>)> {
+    vec![
+        ("mixed-corpus".into(), mixed().map(Call::Check).collect()),
+        (
+            format!("accepted-up-to-{SMALL}-bytes"),
+            small().map(Call::Check).collect(),
+        ),
+    ]
+}
+
 fn stages() {
     head("files", RUST);
     let mut by_number: BTreeMap<u64, Vec<Call>> = BTreeMap::new();
@@ -424,11 +482,9 @@ fn stages() {
 
 fn times() {
     head("files", RUST);
-    row(
-        "mixed-corpus",
-        &mut mixed().map(Call::Check).collect::<Vec<_>>(),
-        RUST,
-    );
+    for (name, mut calls) in corpora() {
+        row(&name, &mut calls, RUST);
+    }
     rows(named(), RUST);
 }
 
@@ -438,10 +494,7 @@ fn calls(who: &str, path: &str, count: u32) {
         "singly" => SINGLY,
         _ => RUST,
     };
-    let mut call = Call::read(path);
-    for _ in 0..count {
-        black_box(side.answer(black_box(&mut call)));
-    }
+    seconds(side, &mut Call::read(path), count);
 }
 
 fn write(folder: &str) {
@@ -456,6 +509,10 @@ fn write(folder: &str) {
             let path = format!("{folder}/{name}.{extension}");
             fs::write(path, call.bytes()).expect("the file is written");
         }
+    }
+    for (name, calls) in corpora() {
+        let path = format!("{folder}/{name}.corpus");
+        fs::write(path, corpus_of(&calls)).expect("the file is written");
     }
 }
 

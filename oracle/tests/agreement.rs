@@ -101,6 +101,22 @@ fn on_damaged_worst_files() {
 }
 
 #[test]
+fn on_worst_files_with_damaged_charts() {
+    let mut rng = Rng::new(8);
+    let mut seen = BTreeMap::new();
+    for (name, yard) in gen::worst::all() {
+        for _ in 0..files(60) {
+            let mut damaged = yard.clone();
+            let at = 4 + rng.below(damaged.chart.len() - 4);
+            damaged.chart[at] ^= 1 << rng.below(8);
+            let answer = both(&damaged.file(), &name);
+            *seen.entry(answer.n).or_insert(0) += 1;
+        }
+    }
+    assert!(seen[&21] > files(60), "{seen:?}");
+}
+
+#[test]
 fn on_expression_charts() {
     let mut refusals = BTreeMap::new();
     for seed in 0..files(3_000) {

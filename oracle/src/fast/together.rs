@@ -4,17 +4,19 @@
 //! So all of them are searched at once, stopping at each start: no row is read
 //! twice, and no vertex followed twice. Where this meets another start, or what
 //! breaks a loop, they are searched one after another for what is refused.
-use super::{
-    bit, highest, loop_body, lowest, onward, refused, standing_chart, standing_steps, union, Chart,
-    Refusal, Successors, Vertices, MOST_VERTICES,
-};
+use super::chart::Chart;
+use super::removal::{loop_body, standing_chart, standing_steps};
+use super::sets::{bit, highest, lowest, Vertices, MOST_VERTICES};
+use super::table::Table;
+use super::{refused, Refusal};
 use crate::Answer;
 
 const MOST_LOOPS: usize = 64;
 
 /// Takes out the loops of a list, two bytes each.
 pub fn remove_together(chart: &[u8], labels: &[u8], loops: &[u8], standing: &mut [u8]) -> Answer {
-    match removable(chart, labels, loops, standing) {
+    let mut rows = Table::of(0);
+    match removable(chart, &mut rows, labels, loops, standing) {
         Ok((chart, loops)) => {
             clear(&chart, labels, &loops, standing);
             Answer::fine(0, 0, 0)
@@ -25,11 +27,12 @@ pub fn remove_together(chart: &[u8], labels: &[u8], loops: &[u8], standing: &mut
 
 fn removable<'a>(
     chart: &'a [u8],
+    rows: &'a mut Table<u16>,
     labels: &[u8],
     loops: &[u8],
     standing: &[u8],
 ) -> Result<(Chart<'a>, Loops), Refusal> {
-    let chart = standing_chart(chart, labels, standing)?;
+    let chart = standing_chart(chart, rows, labels, standing)?;
     let Some(in_order) = Loops::read(loops) else {
         return Err(refused(56, 0, 0, 0));
     };
@@ -159,14 +162,14 @@ impl<'a> Search<'a> {
     ) {
         let row = self.chart.row(v);
         let marks = labels[row.clone()].iter().zip(&self.standing[row]);
-        let steps = self.chart.leaving(v).zip(marks);
+        let steps = self.chart.targets(v).zip(marks);
         if group.len() <= FEW {
             for (place, &one) in (first..).zip(group) {
                 // Level 0 marks branches and names no loop.
                 if level(one) != 0 {
-                    self.entries[place] = steps.clone().fold(0, |to, (t, (&label, &stands))| {
+                    self.entries[place] = steps.clone().fold(0, |all, (to, (&label, &stands))| {
                         let is_entry = stands & (label as usize == level(one)) as u8;
-                        to | (is_entry as Vertices) << t.to
+                        all | (is_entry as Vertices) << to
                     });
                 }
             }
@@ -176,8 +179,8 @@ impl<'a> Search<'a> {
             places[level(one)] = place as u8;
         }
         places[0] = MOST_LOOPS as u8;
-        for (t, (&label, &stands)) in steps {
-            self.entries[places[label as usize] as usize] |= (stands as Vertices) << t.to;
+        for (to, (&label, &stands)) in steps {
+            self.entries[places[label as usize] as usize] |= (stands as Vertices) << to;
         }
         for &one in group {
             places[level(one)] = MOST_LOOPS as u8;
@@ -210,7 +213,7 @@ impl<'a> Search<'a> {
         let mut bodies = loops.all().iter().zip(&self.entries);
         bodies.all(|(&one, &to)| {
             // Where there are entries the start is below 128.
-            to != 0 && union(&onward, to, highest) & end_and_starts == bit(start(one))
+            to != 0 && union(&onward, to) & end_and_starts == bit(start(one))
         })
     }
 
@@ -236,4 +239,62 @@ impl<'a> Search<'a> {
             None => Ok(()),
         }
     }
+}
+
+type Successors = [Vertices; MOST_VERTICES];
+
+/// For each vertex of `within` what it leads to without leaving `within`,
+/// itself included; None where there is a cycle.
+fn onward(next: &Successors, within: Vertices) -> Option<Successors> {
+    let mut onward = [0; MOST_VERTICES];
+    let mut unseen = within;
+    let mut path = [0u8; MOST_VERTICES];
+    let mut on_path: Vertices = 0;
+    while unseen != 0 {
+        let mut depth = 0;
+        let mut fresh = Some(highest(unseen));
+        loop {
+            if let Some(vertex) = fresh {
+                unseen &= !bit(vertex);
+                on_path |= bit(vertex);
+                if next[vertex] & on_path != 0 {
+                    return None;
+                }
+                onward[vertex] = bit(vertex);
+                path[depth] = vertex as u8;
+                depth += 1;
+            }
+            let at = path[depth - 1] as usize;
+            // A successor that is under another one adds nothing.
+            let todo = next[at] & within & !onward[at];
+            if todo != 0 {
+                let child = highest(todo);
+                if unseen & bit(child) != 0 {
+                    fresh = Some(child);
+                    continue;
+                }
+                onward[at] |= onward[child];
+            } else {
+                on_path &= !bit(at);
+                depth -= 1;
+                if depth == 0 {
+                    break;
+                }
+                onward[path[depth - 1] as usize] |= onward[at];
+            }
+            fresh = None;
+        }
+    }
+    Some(onward)
+}
+
+/// All that is in one of the sets of `members`.
+fn union(sets: &Successors, mut members: Vertices) -> Vertices {
+    let mut all = 0;
+    while members != 0 {
+        all |= sets[highest(members)];
+        // What is in a set has its own set in it.
+        members &= !all;
+    }
+    all
 }

@@ -5,7 +5,10 @@
 //! group leads to, and none before it does, makes new groups, one for each
 //! lowest action. So each transition is read once at most, and none after the
 //! group that leads to the end.
-use super::{below, lowest, refused, Chart, Refusal, Vertices, MOST_VERTICES};
+use super::chart::Chart;
+use super::sets::{below, lowest, Vertices, MOST_VERTICES};
+use super::table::Table;
+use super::{refused, Refusal};
 use crate::Answer;
 
 /// Writes the shortest list of events after which the end is in the set.
@@ -14,7 +17,8 @@ pub fn shortest_way(chart: &[u8], state: &[u8], out: &mut [u8]) -> Answer {
 }
 
 fn written(chart: &[u8], state: &[u8], out: &mut [u8]) -> Result<Answer, Refusal> {
-    let chart = Chart::read(chart)?;
+    let mut rows = Table::of(0);
+    let chart = Chart::read(chart, &mut rows)?;
     // A state of another length counts as one without members.
     let set = <[u8; 16]>::try_from(state).map_or(0, Vertices::from_le_bytes);
     if set == 0 || set & !below(chart.vertices) != 0 {

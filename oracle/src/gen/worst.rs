@@ -259,8 +259,54 @@ pub fn deepest_nest() -> Yard {
     }
 }
 
+/// Loops in one another, as many as fit: a branch path up through all vertices,
+/// each of which has an entry to the lowest. So the body of each has all lower
+/// ones in it, and all their loops.
+pub fn chain_of_loops() -> Yard {
+    let mut labelled = Labelled::new();
+    for v in 1..=127 {
+        labelled.insert(step(v, 1, 1), v as u8);
+        if v < 127 {
+            labelled.insert(step(v, 1, v + 1), 0);
+        }
+    }
+    yard(&forever(1), 128, 1, labelled)
+}
+
+/// Check 35 where the loops of one vertex can't be told by what all of them
+/// reach: layers of `WIDTH` vertices, each with a loop of its own level, that
+/// branch to all of the next lower layer, the lowest to vertex 127. That one has
+/// for each of these loops one just above it, which leads to its vertex. There
+/// is room for one transition more.
+pub fn dense_layers() -> Yard {
+    const WIDTH: usize = 9;
+    const ACTIONS: u8 = 7;
+    let mut labelled = Labelled::new();
+    for v in 1..=126 {
+        let lowest_of_layer = v - (v - 1) % WIDTH;
+        let next = if lowest_of_layer == 1 {
+            127..128
+        } else {
+            lowest_of_layer - WIDTH..lowest_of_layer
+        };
+        for action in 1..=ACTIONS {
+            labelled.extend(next.clone().map(|to| (step(v, action, to), 0)));
+        }
+        labelled.insert(step(v, 1, v), 2 * v as u8);
+    }
+    for more in 0..ACTIONS {
+        for to in 1..=126u8 {
+            if labelled.len() < 8191 {
+                let action = (to + more) % ACTIONS + 1;
+                labelled.insert(step(127, action, to.into()), 2 * to + 1);
+            }
+        }
+    }
+    yard(&forever(ACTIONS), 128, 127, labelled)
+}
+
 /// The named files.
-const NAMED: [(&str, fn() -> Yard); 8] = [
+const NAMED: [(&str, fn() -> Yard); 10] = [
     ("many vertices", many_vertices),
     ("thousands of loops", thousands_of_loops),
     ("own bodies", own_bodies),
@@ -269,7 +315,13 @@ const NAMED: [(&str, fn() -> Yard); 8] = [
     ("longest body", longest_body),
     ("wide layers", wide_layers),
     ("deepest nest", deepest_nest),
+    ("chain of nested loops", chain_of_loops),
+    ("dense layers", dense_layers),
 ];
+
+/// So many of the first are in the generator's files too. Later ones are not, so
+/// that a seed's file stays what it is.
+const GENERATED: usize = 8;
 
 /// All named files, with their names.
 pub fn all() -> Vec<(&'static str, Yard)> {
@@ -279,7 +331,7 @@ pub fn all() -> Vec<(&'static str, Yard)> {
 /// One of these families, mostly smaller.
 pub(super) fn some(rng: &mut Rng) -> Yard {
     if rng.percent(25) {
-        let (_, yard) = NAMED[rng.below(NAMED.len())];
+        let (_, yard) = NAMED[rng.below(GENERATED)];
         return yard();
     }
     match rng.below(6) {
