@@ -1,20 +1,18 @@
 -- One answer: what the contracts of this crate say of an answer determines it. (Sets: `one-set` in Members; tables: `table-one`,
--- `gains-one` in Gains; words that are said by their bits: `same-word` in Members.)
-use mathlib.Core.Path.{_≡_, refl, sym, _∙_}
+-- `gains-one` in Gains, `ones-one` in Ones; words that are said by their bits: `same-word` in Members.)
+use mathlib.Core.Path.{_≡_, refl}
 use mathlib.Core.Logic.{_↔_}
 use mathlib.Core.Bool.{Bool, true, false, false≢true}
 use mathlib.Core.List.{List}
-use Prim.Native.Nat.{ℕ, _+_, _*_, _≤_, _<_}
+use Prim.Native.Nat.{ℕ, _*_, _<_}
 use native.Mathlib.Nat.{le-refl}
-use native.Mathlib.Decide.{ℕ-discrete}
 use native.Mathlib.Omega.{arith}
-use lib.ListN.{getD}
 use Rattle.bits.specs.declared.sets.Set.{Set}
 use Rattle.bits.specs.Bits.{HighestByte}
-use Rattle.bits.specs.Words.{On, LowestOn, HighestOn, With, Without}
+use Rattle.bits.specs.Words.{LowestOn, HighestOn, With, Without}
 use Rattle.bits.specs.First.{First, Split}
 use Rattle.bits.specs.Packed.{Packed}
-use Rattle.bits.specs.Sets.{Has, Members, SetFits, Last}
+use Rattle.bits.specs.Sets.{Members, SetFits, Last}
 use Rattle.bits.proofs.Words.{bit-below}
 use Rattle.bits.proofs.Members.{same-word, one-set}
 

@@ -6,5 +6,6 @@ pub mod Packed
 pub mod Highest
 pub mod Members
 pub mod Gains
+pub mod Ones
 pub mod Visits
 pub mod Determined

@@ -1,9 +1,8 @@
 -- Sets of the numbers below 128, by the bits of their two words.
 use mathlib.Core.Path.{_≡_, refl, sym, _∙_, ap, subst}
-use mathlib.Core.Logic.{_≢_, _⊎_, inl, inr, ⊎-elim, _↔_}
+use mathlib.Core.Logic.{_≢_, _⊎_, inl, inr, ⊎-elim, _↔_, by-cases}
 use mathlib.Core.Bool.{Bool, true, false, cond, _&&_, true≢false, false≢true}
 use Prim.Native.Nat.{ℕ, _+_, _-_, _/_, _%_, _^_, _≤_, _<_}
-use native.Mathlib.Nat.{zero-div}
 use native.Mathlib.Omega.{arith}
 use native.Mathlib.Decide.{decLt, ℕ-discrete}
 use borrow.Author.Tests.{lt-ltb, le-ltb, ltb-true, ltb-false, eqb-true, eq-eqb}
@@ -15,7 +14,7 @@ use Rattle.bits.specs.Words.{On, LowestOn, HighestOn, With, Without}
 use Rattle.bits.specs.First.{First}
 use Rattle.bits.specs.Packed.{Packed}
 use Rattle.bits.specs.Sets.{halfOf, Has, emptySet, Empty, Members, Union, Intersection, Difference, Last, SetFits, sizeOf}
-use Rattle.bits.proofs.Words.{no-bit, subset-le, bit-below}
+use Rattle.bits.proofs.Words.{digit-none, no-bit, subset-le, bit-below}
 use Rattle.bits.proofs.Counts.{bits-lt, bits-few}
 
 -- one side of a choice, told otherwise
@@ -25,7 +24,7 @@ pub ⊎-map : {A B C D : Type 0} → (A → C) → (B → D) → A ⊎ B → C �
 
 -- no bit of 0 is set
 pub zero-off : (k : ℕ) → ¬ On 0 k
-zero-off k h = let e = zero-div (2 ^ k) in let f : 0 / 2 ^ k % 2 ≡ 0 = rw e in omega (arith, f, h)
+zero-off k h = omega (arith, digit-none k, h)
 
 -- nothing is in the empty set
 pub none : Empty emptySet
@@ -305,6 +304,21 @@ pub with-high : (s : Set) (k x : ℕ) → k < 64 → With (s .hi) k x → (y : �
 with-high s k x l W = with-law s (64 + k) (record { lo = s .lo; hi = x }) (omega (arith, l))
     (λ j. (inl, ⊎-elim (λ o. o) (λ e. absurd (omega (arith, e .0)))))
     (λ j. ((λ o. ⊎-map (λ p. p) (λ e. omega (arith, e)) (W .exactly j .0 o)), (λ o. W .exactly j .1 (⊎-map (λ p. p) (λ e. omega (arith, e)) o))))
+
+-- the numbers below b
+pub below-law : (s : Set) (b : ℕ) → ((j : ℕ) → j < 64 → On (s .lo) j ↔ (j < b)) → ((j : ℕ) → j < 64 → On (s .hi) j ↔ (64 + j < b))
+    → Members (λ (w : ℕ). w < b) s
+below-law s b f g = record { exactly = λ w h. by-cases (decLt w 64) (low w) (λ l. high w (omega arith) h) }
+  where
+    low : (w : ℕ) → w < 64 → Has s w ↔ (w < b)
+    low w l = ((λ k. f w l .0 (has-low s w l k)), (λ k. low-has s w l (f w l .1 k)))
+
+    high : (w : ℕ) → 64 ≤ w → w < 128 → Has s w ↔ (w < b)
+    high w m h =
+        let q : 64 + (w - 64) ≡ w = omega arith in
+        let l : w - 64 < 64 = omega arith in
+        subst (λ (x : ℕ). Has s x ↔ (x < b)) q
+        ((λ k. g (w - 64) l .0 (has-high s (w - 64) l k)), (λ k. high-has s (w - 64) l (g (w - 64) l .1 k)))
 
 -- the numbers from a up to i
 pub between-none : (a : ℕ) → Members (λ (w : ℕ). (a ≤ w) × (w < a)) emptySet

@@ -3,12 +3,13 @@ use mathlib.Core.Path.{_≡_, refl, sym, ap, _∙_, subst}
 use mathlib.Core.Logic.{_≢_, _⊎_, inl, inr, _↔_}
 use mathlib.Core.Bool.{Bool, true, false, not, false≢true}
 use Prim.Native.Nat.{ℕ, zero, suc, min, max, _+_, _-_, _*_, _/_, _%_, _^_, _≤_, _<_}
-use native.Mathlib.Nat.{div-one, div-self, zero-div, div-eq-of-lt, div-div-eq-div-mul, mul-comm, mod-lt, mod-eq-of-lt, mul-mod-left, mul-div-cancel, pow-suc, eq-or-lt-of-le, one-le-pow, pow-le-pow-right, div-eq-of-lt-le}
+use native.Mathlib.Nat.{div-one, div-self, zero-div, div-eq-of-lt, div-div-eq-div-mul, mul-comm, mod-lt, mod-eq-of-lt}
+use native.Mathlib.Nat.{pow-suc, eq-or-lt-of-le, div-eq-of-lt-le}
 use native.Mathlib.Decide.{decLt, ℕ-discrete}
 use native.Mathlib.Omega.{arith}
 use lib.Arith.{digits-mod, bin-ind}
 use lib.Dec.{eqb}
-use lib.Pow.{pow-pos, pow-lt, pow-add, pow-mono, shr-shr}
+use lib.Pow.{pow-pos, pow-lt, pow-mono, shr-shr}
 use lib.Bits.{bitAnd, bitOr, bitXor, differ, and-step, or-step, xor-step, and-shr, or-shr, xor-shr}
 use lib.Count.{trailingZeros, under, trailing-le, leadingZeros, leading-top}
 use borrow.Author.Tests.{eq-eqb, eqb-true}
@@ -27,6 +28,9 @@ digit-zero x = ap (λ (y : ℕ). y % 2) (div-one x)
 
 digit-suc : (x k : ℕ) → digit x (suc k) ≡ digit (x / 2) k
 digit-suc x k = ap (λ (y : ℕ). y % 2) (ap (λ (y : ℕ). x / y) (pow-suc 2 k ∙ mul-comm (2 ^ k) 2) ∙ sym (div-div-eq-div-mul x 2 (2 ^ k)))
+
+pub digit-none : (k : ℕ) → digit 0 k ≡ 0
+digit-none k = ap (λ (y : ℕ). y % 2) (zero-div (2 ^ k))
 
 -- an operation on the digits of two words
 and-digit : (a b k : ℕ) → digit (bitAnd a b) k ≡ min (digit a k) (digit b k)
@@ -89,6 +93,16 @@ pow-on (suc k) (suc j) h = ap suc (pow-on k j (sym (ap (λ (y : ℕ). digit y j)
 
 on-pow : (k : ℕ) → On (2 ^ k) k
 on-pow k = ap (λ (y : ℕ). y % 2) (div-self (pow-pos k))
+
+-- one less than a power of two has the bits below it
+pub below-on : (d j : ℕ) → On (2 ^ d - 1) j ↔ (j < d)
+below-on zero j = ((λ on. let e : digit 0 j ≡ 1 = on in absurd (omega (arith, digit-none j, e))), (λ h. omega (arith, h)))
+below-on (suc d) zero = ((λ on. omega arith), (λ h. digit-zero (2 ^ suc d - 1) ∙ omega (arith, pow-suc 2 d, pow-pos d)))
+below-on (suc d) (suc j) =
+    let h : (2 ^ suc d - 1) / 2 ≡ 2 ^ d - 1 = omega (arith, pow-suc 2 d, pow-pos d) in
+    let e : digit (2 ^ suc d - 1) (suc j) ≡ digit (2 ^ d - 1) j = digit-suc (2 ^ suc d - 1) j ∙ ap (λ (y : ℕ). digit y j) h in
+    let B = below-on d j in
+    ((λ on. omega (arith, B .0 (sym e ∙ on))), (λ l. e ∙ B .1 (omega (arith, l))))
 
 -- what has no bit beyond those of x is no greater
 pub subset-le : (r : ℕ) → (x : ℕ) → ((k : ℕ) → On r k → On x k) → r ≤ x
@@ -267,7 +281,18 @@ lowest-from-some x k y r h D L =
       before = λ j i l on. let q : k + (j - k) ≡ j = omega (arith, i) in L .below (j - k) (omega (arith, i, l)) (D (j - k) .1 (rw q on));
     }
 
--- ONE BIT MORE where p is 1, and nothing where p is 0
+-- ONE BIT MORE, and none
+pub or-worth : (x y k j : ℕ) → y ≡ 2 ^ k → On (bitOr x y) j ↔ (On x j ⊎ (j ≡ k))
+or-worth x y k j e = rw e (with-law x k .exactly j)
+
+pub or-nothing : (x y j : ℕ) → y ≡ 0 → On (bitOr x y) j ↔ On x j
+or-nothing x y j e = let E = either-on x y j in ((λ on. told (E .0 on)), (λ on. E .1 (inl on)))
+  where
+    told : (On x j ⊎ On y j) → On x j
+    told (inl o) = o
+    told (inr o) = let f : digit 0 j ≡ 1 = rw e at o in absurd (omega (arith, digit-none j, f))
+
+-- one bit more where p is 1, and nothing where p is 0
 moved-one : (p k : ℕ) → p ≡ 1 → k < 64 → (p * 2 ^ k) % 18446744073709551616 ≡ 2 ^ k
 moved-one p k e h = ap (λ (q : ℕ). (q * 2 ^ k) % 18446744073709551616) e ∙ bit-worth k h
 
@@ -279,8 +304,7 @@ with-moved x p k j l h = elim (ℕ-discrete p 1) [ yes e ↦ one e | no e ↦ no
   where
     one : p ≡ 1 → On (bitOr x ((p * 2 ^ k) % 18446744073709551616)) j ↔ (On x j ⊎ ((p ≡ 1) × (j ≡ k)))
     one e =
-        let W = with-law x k .exactly j in
-        subst (λ (y : ℕ). On (bitOr x y) j ↔ (On x j ⊎ ((p ≡ 1) × (j ≡ k)))) (sym (moved-one p k e h))
+        let W = or-worth x ((p * 2 ^ k) % 18446744073709551616) k j (moved-one p k e h) in
         ((λ on. told (W .0 on)), (λ s. W .1 (back s)))
       where
         told : (On x j ⊎ (j ≡ k)) → On x j ⊎ ((p ≡ 1) × (j ≡ k))
@@ -293,19 +317,11 @@ with-moved x p k j l h = elim (ℕ-discrete p 1) [ yes e ↦ one e | no e ↦ no
 
     nothing : ¬ (p ≡ 1) → On (bitOr x ((p * 2 ^ k) % 18446744073709551616)) j ↔ (On x j ⊎ ((p ≡ 1) × (j ≡ k)))
     nothing f =
-        let e = either-on x 0 j in
-        subst (λ (y : ℕ). On (bitOr x y) j ↔ (On x j ⊎ ((p ≡ 1) × (j ≡ k)))) (sym (moved-none p k (omega (arith, l, f))))
-        ((λ on. told (e .0 on)), (λ s. e .1 (back s)))
+        let W = or-nothing x ((p * 2 ^ k) % 18446744073709551616) j (moved-none p k (omega (arith, l, f))) in
+        ((λ on. inl (W .0 on)), (λ s. W .1 (back s)))
       where
-        off : ¬ On 0 j
-        off o = let z : digit 0 j ≡ 0 = rw (zero-div (2 ^ j)) in omega (arith, z, o)
-
-        told : (On x j ⊎ On 0 j) → On x j ⊎ ((p ≡ 1) × (j ≡ k))
-        told (inl o) = inl o
-        told (inr o) = absurd (off o)
-
-        back : (On x j ⊎ ((p ≡ 1) × (j ≡ k))) → On x j ⊎ On 0 j
-        back (inl o) = inl o
+        back : (On x j ⊎ ((p ≡ 1) × (j ≡ k))) → On x j
+        back (inl o) = o
         back (inr g) = absurd (f (g .0))
 
 pub low-with-law : (x w j : ℕ) → w < 128 → On (bitOr x (((1 - w / 64) * 2 ^ (w % 64)) % 18446744073709551616)) j ↔ (On x j ⊎ ((w < 64) × (j ≡ w)))

@@ -1,5 +1,5 @@
 -- Sets of the numbers below 128.
-use Prim.Native.Nat.{ℕ, _+_, _/_, _%_, _^_, _<_}
+use Prim.Native.Nat.{ℕ, min, _+_, _/_, _%_, _^_, _≤_, _<_}
 use mathlib.Core.Path.{_≡_}
 use mathlib.Core.List.{List}
 use mathlib.Core.Logic.{_⊎_, _↔_}
@@ -57,3 +57,11 @@ pub record BytesOf (s : Set) (r : List ℕ) : Type 0 where
   pub long : length r ≡ 16
   pub below : (k : ℕ) → getD r k 0 < 256
   pub exactly : (w : ℕ) → w < 128 → On (getD r (w / 8) 0) (w % 8) ↔ Has s w
+
+-- a table of 192 words by which a number below n comes into a set: from word 64 on, what each bit of a word is worth that
+-- such a number needs; the others are 0
+pub record Ones (n : ℕ) (a : List ℕ) : Type 0 where
+  pub long : length a ≡ 192
+  pub worth : (k : ℕ) → k < min n 64 → getD a (64 + k) 0 ≡ 2 ^ k
+  pub before : (i : ℕ) → i < 64 → getD a i 0 ≡ 0
+  pub after : (i : ℕ) → 64 + min n 64 ≤ i → getD a i 0 ≡ 0

@@ -4,6 +4,7 @@ pub mod tables;
 
 pub use sets::Marked;
 pub use sets::Set;
+pub use sets::fill_ones;
 pub use sets::read_set;
 pub use sets::set_bytes;
 ghost use mathlib.Core.Path.{_≡_};
@@ -34,14 +35,14 @@ pub fn read_u16(s: &[u8], at: usize) -> usize
 }
 
 // Four bytes as one number, the first the lowest.
-fn four_bytes(a: u8, b: u8, c: u8, d: u8) -> usize
-    ensures { λ r. ⌜ (r ≡ a + 256 * b + 65536 * c + 16777216 * d) × (r < 4294967296) ⌝ }
+fn four_bytes(a: u8, b: u8, c: u8, d: u8) -> u32
+    ensures { λ r. ⌜ r ≡ a + 256 * b + 65536 * c + 16777216 * d ⌝ }
 {
-    a as usize + 256 * (b as usize) + 65536 * (c as usize) + 16777216 * (d as usize)
+    a as u32 + 256 * (b as u32) + 65536 * (c as u32) + 16777216 * (d as u32)
 }
 
 // Four bytes from `at` on as one number. Where its bytes are indexed in one function, the compiler makes them one load.
-pub fn read_u32(s: &[u8], at: usize) -> usize
+pub fn read_u32(s: &[u8], at: usize) -> u32
     requires { ⌜ at + 4 ≤ length (now s) ⌝ }
     ensures { λ r. ⌜ (r ≡ fourAt (now (s .entry)) at) × Packed (now (s .entry)) at 4 r ⌝ }
 {
@@ -55,7 +56,7 @@ pub fn read_u64(s: &[u8], at: usize) -> u64
 {
     let low = read_u32(s, at);
     let high = read_u32(s, at + 4);
-    (low + 4294967296 * high) as u64
+    low as u64 + 4294967296 * (high as u64)
 }
 
 // The greater of two bytes.
@@ -163,6 +164,17 @@ pub fn count_bits_below(x: u64, k: usize) -> usize
     ensures { λ r. ⌜ (r ≡ bitsBelow x k) × (r ≤ 64) ⌝ }
 {
     count_bits(x % (1u64 << k))
+}
+
+// The word with the bits below k.
+pub fn bits_below(k: usize) -> u64
+    requires { ⌜ k ≤ 64 ⌝ }
+    ensures { λ r. ⌜ ((j : ℕ) → On r j ↔ (j < k)) ⌝ }
+{
+    if k == 64 {
+        return 18446744073709551615;
+    }
+    (1u64 << k) - 1
 }
 
 // Whether two words have a bit in common.

@@ -2,6 +2,7 @@
 use super::bit_and;
 use super::bit_and_not;
 use super::bit_or;
+use super::bits_below;
 use super::count_bits;
 use super::highest_bit;
 use super::is_set;
@@ -14,10 +15,11 @@ ghost use mathlib.Core.Path.{_≡_};
 ghost use mathlib.Core.Bool.{true};
 ghost use mathlib.Core.Logic.{_≢_, _⊎_, _↔_};
 ghost use Prim.Native.Nat.{ℕ, _+_, _/_, _%_, _≤_, _<_};
-ghost use lib.ListN.{length, getD};
+ghost use lib.ListN.{length, getD, replicate};
 ghost use Rattle.bits.specs.First.{First};
 ghost use Rattle.bits.specs.Words.{On};
-ghost use Rattle.bits.specs.Sets.{Has, emptySet, Empty, Members, Union, Intersection, Difference, Last, sizeOf, halfOf, BytesOf};
+ghost use Rattle.bits.specs.Sets.{Has, emptySet, Empty, Members, Union, Intersection, Difference, Last};
+ghost use Rattle.bits.specs.Sets.{sizeOf, halfOf, BytesOf, Ones};
 
 // A set of the numbers below 128: bit k of `lo` for k, bit k of `hi` for 64 + k.
 pub struct Set {
@@ -74,6 +76,17 @@ impl Set {
         Set {
             lo: self.lo | (((1 - w / 64) as u64) << (w % 64)),
             hi: self.hi | (((w / 64) as u64) << (w % 64)),
+        }
+    }
+
+    // The set with w too, by two lookups in the table of `fill_ones` and no shift.
+    pub fn with_by(self, ones: &[u64; 192], w: usize) -> Set
+        requires { ⌜ ((n : ℕ) × (w < n) × Ones n (now ones)) × (w < 128) ⌝ }
+        ensures { λ r. ⌜ ((y : ℕ) → Has r y ↔ (Has self y ⊎ (y ≡ w))) ⌝ }
+    {
+        Set {
+            lo: self.lo | ones[64 + w],
+            hi: self.hi | ones[w],
         }
     }
 
@@ -144,7 +157,8 @@ impl Set {
         128
     }
 
-    // The set with the highest number of another one too, and that number: one branch for both.
+    // The set with the highest number of another one too, and that number. The second word is asked too, since the compiler
+    // finds the highest bit of a word by one instruction where it sees that there is one.
     pub fn with_highest(self, other: Set) -> Marked
         requires { ⌜ ¬ Empty other ⌝ }
         ensures { λ r. ⌜ Last other (r .at) × ((y : ℕ) → Has (r .set) y ↔ (Has self y ⊎ (y ≡ r .at))) ⌝ }
@@ -157,12 +171,16 @@ impl Set {
             };
             return Marked { set, at: 64 + k };
         }
-        let k = highest_bit(other.lo);
-        let set = Set {
-            lo: with_bit(self.lo, k),
-            hi: self.hi,
-        };
-        Marked { set, at: k }
+        if other.lo != 0 {
+            let k = highest_bit(other.lo);
+            let set = Set {
+                lo: with_bit(self.lo, k),
+                hi: self.hi,
+            };
+            return Marked { set, at: k };
+        }
+        // `requires` rules it out
+        Marked { set: self, at: 0 }
     }
 
     // How many numbers are in the set.
@@ -170,6 +188,23 @@ impl Set {
         ensures { λ r. ⌜ (r ≡ sizeOf self) × (r ≤ 128) ⌝ }
     {
         count_bits(self.lo) + count_bits(self.hi)
+    }
+
+    // The numbers below b.
+    pub fn below(b: usize) -> Set
+        requires { ⌜ b ≤ 128 ⌝ }
+        ensures { λ r. ⌜ Members (λ (w : ℕ). w < b) r ⌝ }
+    {
+        if b < 64 {
+            return Set {
+                lo: bits_below(b),
+                hi: 0,
+            };
+        }
+        Set {
+            lo: bits_below(64),
+            hi: bits_below(b - 64),
+        }
     }
 
     // The numbers from a up to b.
@@ -184,6 +219,22 @@ impl Set {
             i += 1;
         }
         set
+    }
+}
+
+// What `with_by` looks up for the numbers below n, in a table of zeros: a number's bit stands 64 words above its place for
+// the first word of a set, and at its place for the second.
+pub fn fill_ones(ones: &mut [u64; 192], n: usize)
+    requires { ⌜ now ones ≡ replicate 192 0 ⌝ }
+    ensures { λ _. ⌜ Ones n (now (ones .exit)) ⌝ }
+{
+    let mut k: usize = 0;
+    while k < n {
+        if k >= 64 {
+            return;
+        }
+        ones[64 + k] = 1u64 << k;
+        k += 1;
     }
 }
 

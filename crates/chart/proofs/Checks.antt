@@ -4,7 +4,7 @@ use mathlib.Core.Logic.{_↔_, _⊎_, inl, inr, ⊎-elim}
 use mathlib.Core.List.{List}
 use mathlib.Core.Bool.{Bool, true, false, cond}
 use Prim.Native.Nat.{ℕ, zero, suc, _+_, _-_, _*_, _≤_, _<_}
-use native.Mathlib.Nat.{eq-or-lt-of-le, sub-zero, le-refl}
+use native.Mathlib.Nat.{eq-or-lt-of-le, le-refl}
 use native.Mathlib.Numerals.{add-one}
 use native.Mathlib.Omega.{arith}
 use lib.Dec.{eqb·suc-zero}
@@ -115,23 +115,6 @@ pub ok-holds : (b : List ℕ) (i : ℕ) → Sound b i → okAt b i ≡ true
 unfolding okAt
 ok-holds b i h = both (fits-holds b i (h .fits)) (above-holds b i (h .above))
 
--- one more of what remains
-remains : {i n : ℕ} → i < n → n - i ≡ suc (n - (i + 1))
-remains h = omega arith
-
--- the turns of the loop of `check`
-pub bad-step : (b : List ℕ) (i n : ℕ) → i < n → okAt b i ≡ true → firstBad b i (n - i) ≡ firstBad b (i + 1) (n - (i + 1))
-unfolding firstBad
-bad-step b i n h e = rw (remains h, add-one i, e)
-
-pub bad-stop : (b : List ℕ) (i n : ℕ) → i < n → okAt b i ≡ false → firstBad b i (n - i) ≡ Refused (Transition i)
-unfolding firstBad
-bad-stop b i n h e = rw (remains h, e)
-
-pub bad-end : (b : List ℕ) (i n : ℕ) → n ≤ i → firstBad b i (n - i) ≡ Passed
-unfolding firstBad
-bad-end b i n h = let e : n - i ≡ 0 = omega arith in rw e
-
 pub check-header : (b : List ℕ) → headerOk b ≡ false → checkOf b ≡ Refused ChartHeader
 unfolding checkOf
 check-header b h = rw h
@@ -139,9 +122,6 @@ check-header b h = rw h
 pub check-rest : (b : List ℕ) → headerOk b ≡ true → checkOf b ≡ firstBad b 0 (countOf b)
 unfolding checkOf
 check-rest b h = rw h
-
-pub check-start : (b : List ℕ) (n : ℕ) → headerOk b ≡ true → n ≡ countOf b → firstBad b 0 (n - 0) ≡ checkOf b
-check-start b n h e = rw (check-rest b h, sub-zero n, e)
 
 -- what the search for the lowest bad transition says
 all-sound : (b : List ℕ) (i n : ℕ) → ((k : ℕ) → i ≤ k → k < i + n → okAt b k ≡ true) → firstBad b i n ≡ Passed
@@ -188,7 +168,7 @@ climbs b i (suc d) h l =
     let k : keyAt b (i + suc d) < keyAt b (suc (i + suc d)) = h (suc (i + suc d)) (omega arith) .above (i + suc d) refl in
     rw e (omega (arith, climbs b i d h (omega arith)))
 
-well-of : (b : List ℕ) → HeaderFits b → ((k : ℕ) → k < countOf b → Sound b k) → WellFormed b
+pub well-of : (b : List ℕ) → HeaderFits b → ((k : ℕ) → k < countOf b → Sound b k) → WellFormed b
 well-of b head h = record {
   header = head;
   each = λ i l. h i l .fits;

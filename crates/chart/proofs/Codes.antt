@@ -1,19 +1,20 @@
--- 21 by words: the four comparisons say what `okAt` says, and the loop of `check` over words what `checkOf` says.
+-- 21 by words: the four comparisons say whether a transition is sound, and so a turn over words what `checkOf` says.
 use mathlib.Core.Path.{_≡_, refl, sym, ap, _∙_}
 use mathlib.Core.List.{List}
-use mathlib.Core.Bool.{Bool, true, false}
+use mathlib.Core.Bool.{true, false}
 use Prim.Native.Nat.{ℕ, zero, suc, _+_, _-_, _*_, _/_, _%_, _≤_, _<_}
 use native.Mathlib.Omega.{arith}
 use lib.ListN.{length}
+use borrow.Author.Count.{below-more}
 use borrow.Author.Tests.{le-leb, lt-ltb, leb-true, ltb-true}
 use Rattle.bits.specs.Bits.{Bytes}
+use Rattle.bits.specs.Packed.{fourAt}
 use Rattle.report.specs.declared.Place.the-variants.{Transition}
 use Rattle.report.specs.declared.Stage.the-variants.{Passed, Refused}
-use Rattle.chart.specs.Bodies.{verticesOf, countOf, fromOf, actionOf, padOf, keyAt, HeaderFits, Sound}
-use Rattle.chart.specs.Checks.{_and_, headerOk, okAt, firstBad, checkOf}
-use Rattle.bits.specs.Packed.{fourAt}
-use Rattle.chart.specs.Codes.{reversedOf, codeOk}
-use Rattle.chart.proofs.Checks.{left, right, both, told, differ, ok-true, ok-holds, bad-step, bad-stop, bad-end, check-start}
+use Rattle.chart.specs.Bodies.{verticesOf, countOf, actionOf, padOf, keyAt, HeaderFits, Sound, SoundTo}
+use Rattle.chart.specs.Checks.{checkOf}
+use Rattle.chart.specs.Codes.{reversedOf, codeRises, codeOk, Turn}
+use Rattle.chart.proofs.Checks.{left, right, both, differ, well-of, passes, check-21}
 
 -- a word of four bytes has them as its digits
 module _ (f a t l : ℕ) (F : f < 256) (A : a < 256) (T : t < 256) where
@@ -41,20 +42,8 @@ module _ (f a t l : ℕ) (F : f < 256) (A : a < 256) (T : t < 256) where
   reversed-joined : reversedOf joined ≡ 16777216 * f + 65536 * a + 256 * t + l
   reversed-joined = rw (digit-0, digit-1, digit-2, digit-3) refl
 
--- z is what comes before transition i: the word before it, turned round, or the number below all that leave 1 or above
-pub record Before (b : List ℕ) (i z : ℕ) : Type 0 where
-  pub first : i ≡ 0 → z ≡ 16777215
-  pub later : (j : ℕ) → suc j ≡ i → (z ≡ 256 * keyAt b j) × (1 ≤ fromOf b j)
-
-before-low : {b : List ℕ} (i : ℕ) {z : ℕ} → Before b i z → 16777215 ≤ z
-before-low zero Z = omega (arith, Z .first refl)
-before-low (suc j) Z = omega (arith, Z .later j refl)
-
-before-high : {b : List ℕ} (i : ℕ) {z : ℕ} → Before b i z → Sound b i → z < 256 * keyAt b i
-before-high zero Z S = omega (arith, Z .first refl, S .fits .from-low)
-before-high (suc j) Z S = omega (arith, Z .later j refl, S .above j refl)
-
-module _ (b : List ℕ) (B : Bytes b) (H : HeaderFits b) (i z : ℕ) (Z : Before b i z) where
+-- the word of transition i
+module _ (b : List ℕ) (B : Bytes b) (i : ℕ) where
   abbrev at : ℕ
   at = 4 * i + 4
 
@@ -67,87 +56,114 @@ module _ (b : List ℕ) (B : Bytes b) (H : HeaderFits b) (i z : ℕ) (Z : Before
   word-action : word / 256 % 256 ≡ actionOf b i
   word-action = digit-1 _ _ _ (padOf b i) (B at) (B (at + 1)) (B (at + 2))
 
-  word-sound : codeOk word (reversedOf word) (verticesOf b) z ≡ true → Sound b i
-  unfolding codeOk
-  word-sound e =
-      let e3 = rw (turned-word, word-action) at e in
-      let e2 = left _ _ e3 in
-      let e1 = left _ _ e2 in
-      sound (ltb-true _ _ (left _ _ e1)) (ltb-true _ _ (right _ _ e1)) (leb-true _ _ (right _ _ e2)) (ltb-true _ _ (right _ _ e3))
-    where
-      sound : z < 256 * keyAt b i + padOf b i → 256 * keyAt b i + padOf b i < 16777216 * verticesOf b → 1 ≤ actionOf b i → word < 65536 * verticesOf b → Sound b i
-      sound above below acts low =
-          let pad : padOf b i ≡ 0 = omega (arith, H .vertices-high) in
-          record {
-            fits = record {
-              from-low = omega (arith, before-low i Z, B (at + 1), B (at + 2));
-              from-high = omega arith;
-              action-low = acts;
-              to-high = omega arith;
-              pad-zero = pad;
-            };
-            above = λ j e. omega (arith, Z .later j e .0);
-          }
+-- none has passed
+pub sound-none : {b : List ℕ} → HeaderFits b → SoundTo b 4
+sound-none H = record { header = H; passed = 0; place = refl; within = omega arith; each = λ i h. absurd (omega arith) }
 
-  sound-word : Sound b i → codeOk word (reversedOf word) (verticesOf b) z ≡ true
-  unfolding codeOk
-  sound-word S =
-      let above : z < 256 * keyAt b i + padOf b i = omega (arith, before-high i Z S) in
-      let below : 256 * keyAt b i + padOf b i < 16777216 * verticesOf b = omega (arith, S .fits, B (at + 1), B (at + 2)) in
-      let low : word < 65536 * verticesOf b = omega (arith, S .fits, B at, B (at + 1)) in
-      rw (turned-word, word-action) (both (both (both (lt-ltb _ _ above) (lt-ltb _ _ below)) (le-leb _ _ (S .fits .action-low))) (lt-ltb _ _ low))
-
-  word-bad : codeOk word (reversedOf word) (verticesOf b) z ≡ false → okAt b i ≡ false
-  word-bad f = told (okAt b i) (λ t. differ (codeOk word (reversedOf word) (verticesOf b) z) (sound-word (ok-true b i t)) f) (λ o. o)
-
-  before-next : Sound b i → Before b (i + 1) (reversedOf word)
-  before-next S = record {
-    first = λ e. absurd (omega arith);
-    later = λ j e.
-        let s : j ≡ i = omega arith in
-        rw s (turned-word ∙ omega (arith, S .fits .pad-zero), S .fits .from-low);
-  }
-
--- what the loop of `check` keeps: transition i begins at byte p, and those before it fit
-pub record Turn (b : List ℕ) (p z : ℕ) : Type 0 where
-  pub i : ℕ
-  pub place : p ≡ 4 * i + 4
-  pub within : i ≤ countOf b
-  pub before : Before b i z
-  pub rest : firstBad b i (countOf b - i) ≡ checkOf b
-
-pub turn-start : (b : List ℕ) → headerOk b ≡ true → Turn b 4 16777215
-turn-start b h = record {
-  i = 0;
-  place = refl;
-  within = omega arith;
-  before = record { first = λ e. refl; later = λ j e. absurd (omega arith) };
-  rest = check-start b _ h refl;
+-- the key of the transition before p
+pub turn-later : {b : List ℕ} {p : ℕ} → Bytes b → SoundTo b p → 8 ≤ p → Turn b p (reversedOf (fourAt b (p - 4)))
+turn-later {b} {p} B S h = record {
+  sound = S;
+  first = λ e. absurd (omega arith);
+  later = λ j e.
+      let s : p - 4 ≡ 4 * j + 4 = omega arith in
+      rw s (turned-word b B j ∙ omega (arith, S .each j (omega (arith, S .place)) .fits .pad-zero));
 }
 
-pub turn-end : (b : List ℕ) → HeaderFits b → (p z : ℕ) → Turn b p z → length b < p + 4 → Passed ≡ checkOf b
-turn-end b H p z T l = sym (bad-end _ _ _ (omega (arith, T .place, H .whole))) ∙ T .rest
+-- the key before p: above all whose from is 0, and below that of a sound transition at p
+module _ {b : List ℕ} {p z : ℕ} (T : Turn b p z) where
+  before-low : 16777215 ≤ z
+  before-low = low (T .sound .passed) (T .sound .place) (T .sound .each)
+    where
+      low : (i : ℕ) → p ≡ 4 * i + 4 → ((k : ℕ) → k < i → Sound b k) → 16777215 ≤ z
+      low zero e S = omega (arith, T .first e)
+      low (suc j) e S = omega (arith, T .later j (omega arith), S j (omega arith) .fits .from-low)
+
+  before-high : Sound b (T .sound .passed) → z < 256 * keyAt b (T .sound .passed)
+  before-high = high (T .sound .passed) (T .sound .place)
+    where
+      high : (i : ℕ) → p ≡ 4 * i + 4 → Sound b i → z < 256 * keyAt b i
+      high zero e S = omega (arith, T .first e, S .fits .from-low)
+      high (suc j) e S = omega (arith, T .later j (omega arith), S .above j refl)
+
+-- all have passed
+pub turn-end : {b : List ℕ} {p : ℕ} → SoundTo b p → length b < p + 4 → Passed ≡ checkOf b
+turn-end {b} S l = sym (passes b (well-of b (S .header) (λ k h. S .each k (omega (arith, S .place, S .header .whole)))))
+
+-- the key is above the one before it
+pub rises : (w k v z : ℕ) → codeRises w k v z ≡ true → z < k
+unfolding codeRises
+rises w k v z e = ltb-true _ _ (left _ _ (left _ _ e))
 
 -- the turn of the word w, turned round k
-module _ (b : List ℕ) (B : Bytes b) (H : HeaderFits b) {p z v w k : ℕ} (T : Turn b p z) (l : p + 4 ≤ length b) (ev : v ≡ verticesOf b) (ew : w ≡ fourAt b p) (ek : k ≡ reversedOf w) where
-  inside : T .i < countOf b
-  inside = omega (arith, T .place, H .whole)
+module _ {b : List ℕ} (B : Bytes b) {p z v w k : ℕ} (T : Turn b p z) (l : p + 4 ≤ length b)
+    (ev : v ≡ verticesOf b) (ew : w ≡ fourAt b p) (ek : k ≡ reversedOf w) where
+  abbrev i : ℕ
+  i = T .sound .passed
 
-  word-here : w ≡ fourAt b (4 * T .i + 4)
-  word-here = ew ∙ ap (fourAt b) (T .place)
+  inside : i < countOf b
+  inside = omega (arith, T .sound .place, T .sound .header .whole)
+
+  word-here : w ≡ word b B i
+  word-here = ew ∙ ap (fourAt b) (T .sound .place)
+
+  key-here : k ≡ 256 * keyAt b i + padOf b i
+  key-here = ek ∙ ap reversedOf word-here ∙ turned-word b B i
+
+  action-here : w / 256 % 256 ≡ actionOf b i
+  action-here = ap (λ (x : ℕ). x / 256 % 256) word-here ∙ word-action b B i
+
+  code-sound : codeRises w k v z ≡ true → k < 16777216 * v → Sound b i
+  unfolding codeRises
+  code-sound e below =
+      let e1 = left _ _ e in
+      sound (ltb-true _ _ (left _ _ e1)) (leb-true _ _ (right _ _ e1)) (ltb-true _ _ (right _ _ e))
+    where
+      sound : z < k → 1 ≤ w / 256 % 256 → w < 65536 * v → Sound b i
+      sound above acts low =
+          let pad : padOf b i ≡ 0 = omega (arith, word-here, ev, T .sound .header .vertices-high) in
+          record {
+            fits = record {
+              from-low = omega (arith, before-low T, key-here, B (at b B i + 1), B (at b B i + 2));
+              from-high = omega (arith, key-here, ev);
+              action-low = omega (arith, action-here);
+              to-high = omega (arith, word-here, ev);
+              pad-zero = pad;
+            };
+            above = λ j e. omega (arith, key-here, T .later j (omega (arith, T .sound .place)));
+          }
+
+  sound-code : Sound b i → codeOk w k v z ≡ true
+  unfolding codeRises codeOk
+  sound-code S =
+      let above : z < k = omega (arith, before-high T S, key-here) in
+      let below : k < 16777216 * v = omega (arith, S .fits, key-here, ev, B (at b B i + 1), B (at b B i + 2)) in
+      let acts : 1 ≤ w / 256 % 256 = omega (arith, S .fits .action-low, action-here) in
+      let low : w < 65536 * v = omega (arith, S .fits, word-here, ev, B (at b B i), B (at b B i + 1)) in
+      both (both (both (lt-ltb _ _ above) (le-leb _ _ acts)) (lt-ltb _ _ low)) (lt-ltb _ _ below)
+
+  pub turn-rises : codeRises w k v z ≡ true → k < 16777216 * v → Turn b (p + 4) k
+  turn-rises e below =
+      let s : p + 4 - 4 ≡ p = omega arith in
+      rw (ek, ew) (rw s at (turn-later B next (omega (arith, T .sound .place))))
+    where
+      next : SoundTo b (p + 4)
+      next = record {
+        header = T .sound .header;
+        passed = i + 1;
+        place = omega (arith, T .sound .place);
+        within = omega (arith, inside);
+        each = below-more (Sound b) i (T .sound .each) (code-sound e below);
+      }
 
   pub turn-step : codeOk w k v z ≡ true → Turn b (p + 4) k
-  turn-step e =
-      let S : Sound b (T .i) = word-sound b B H (T .i) z (T .before) (rw (ek, word-here, ev) at e) in
-      record {
-        i = T .i + 1;
-        place = omega (arith, T .place);
-        within = omega (arith, inside);
-        before = rw (ek, word-here) (before-next b B H (T .i) z (T .before) S);
-        rest = sym (bad-step _ _ _ inside (ok-holds b (T .i) S)) ∙ T .rest;
-      }
+  unfolding codeOk
+  turn-step e = turn-rises (left _ _ e) (ltb-true _ _ (right _ _ e))
 
   pub turn-stop : codeOk w k v z ≡ false → Refused (Transition ((p - 4) / 4)) ≡ checkOf b
   turn-stop f =
-      let s : (p - 4) / 4 ≡ T .i = omega (arith, T .place) in
-      rw s (sym (bad-stop _ _ _ inside (word-bad b B H (T .i) z (T .before) (rw (ek, word-here, ev) at f))) ∙ T .rest)
+      let s : (p - 4) / 4 ≡ i = omega (arith, T .sound .place) in
+      rw s (sym (check-21 b i .1 (T .sound .header, record { holds = (inside, unsound); lowest = λ j g x. x .1 (T .sound .each j g) })))
+    where
+      unsound : ¬ Sound b i
+      unsound S = differ (codeOk w k v z) (sound-code S) f

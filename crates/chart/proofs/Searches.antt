@@ -7,23 +7,30 @@ use Prim.Native.Nat.{ℕ, _+_, _-_, _*_, _≤_, _<_}
 use native.Mathlib.Omega.{arith}
 use native.Mathlib.Decide.{ℕ-discrete, decLt}
 use borrow.Author.Count.{below-more}
-use lib.ListN.{length, replicate}
+use lib.ListN.{length, take, drop, replicate, length-drop}
+use lib.Seq.{take-all, getD-drop}
 use Rattle.bits.specs.declared.sets.Set.{Set}
 use Rattle.bits.specs.First.{First}
-use Rattle.bits.specs.Sets.{Has, emptySet, Empty, Members, Union, Difference, Last, sizeOf}
-use Rattle.bits.specs.Tables.{rowOf, HasRow, putRow, Words}
-use Rattle.bits.proofs.Members.{none, size-lt, has?}
+use Rattle.bits.specs.Sets.{Has, emptySet, Empty, Members, Union, Difference, Last, SetFits, sizeOf}
+use Rattle.bits.specs.Tables.{rowOf, HasRow, putRow, Words, InSome}
+use Rattle.bits.proofs.Members.{none, low-has, high-has, has-low, has-high, size-lt, has?}
+use Rattle.bits.proofs.Words.{bit-below}
 use Rattle.bits.proofs.Determined.{first-one}
 use Rattle.bits.proofs.Gains.{put-long, put-here, put-other, same-table}
 use Rattle.theory.specs.Paths.{Edges, Star, here, step, Plus, last, more, Avoid}
 use Rattle.theory.proofs.Search.{look-below}
 use Rattle.theory.proofs.Paths.{star-then, star-snoc, star-map, plus-of, plus-snoc}
 use Rattle.chart.specs.declared.sets.Search.{Search}
-use Rattle.chart.specs.Sets.{Leads, FromSet, Known, Jumps, Visited, OnCycle, turnOf, beginOf, endOf, Searched, Cycles}
+use Rattle.chart.specs.Sets.{Leads, LedTo, FromSet, Closed, ClosedBut, InOrFrom, Known, Jumps, Visited}
+use Rattle.chart.specs.Sets.{OnCycle, turnOf, beginOf, endOf, Searched, Cycles}
 
 -- a set that is not empty has a member
 pub some-member : (s : Set) → ¬ Empty s → (w : ℕ) × Has s w
 some-member s n = elim (look-below (has? s) 128) [ inl (w, l, h) ↦ (w, h) | inr g ↦ absurd (n (λ w h. g w (h .below) h)) ]
+
+-- where nothing of a set is left without another, it is part of that
+pub all-in : {s t d : Set} → Difference s t d → Empty d → (w : ℕ) → Has s w → Has t w
+all-in {t = t} D E w h = elim (has? t w) [ yes k ↦ k | no k ↦ absurd (E w (D w .1 (h, k))) ]
 
 -- w is where the search stops: nothing changes
 pub visit-stop : (a : List ℕ) (stop w : ℕ) (s : Search) → w ≡ stop → Visited a stop w s s
@@ -62,18 +69,26 @@ visit-jump a after b t stop w s seen past K l j U P = record {
     on x y (inl p) e = elim (ℕ-discrete x w) [ yes q ↦ inr (U y .1 (inr (known y .1 (last (subst (λ (z : ℕ). Leads a z y) q (e .1)))))) | no q ↦ inl (p, q) ]
     on x y (inr p) e = inr (U y .1 (inr (known y .1 (plus-snoc (known x .0 p) (e .1)))))
 
+-- a path from a set that is closed stays in it
+stays : {E : Edges} {s : Set} → Closed E s → {u w : ℕ} → Star E u w → Has s u → Has s w
+stays C here k = k
+stays C (step e p) k = stays C p (C _ _ k e)
+
+-- one from a set that is closed but for another stays in it or comes to the other
+leaves : {E : Edges} {s other : Set} → ClosedBut E s other → {u w : ℕ} → Star E u w → Has s u → InOrFrom E s other w
+leaves C here k = inl k
+leaves C (step e p) k = ⊎-elim (leaves C p) (λ g. inr (_, g, p)) (C _ _ k e)
+
 -- what holds of a search from a set
 pub record Searching (a : List ℕ) (stop : ℕ) (from seen past : Set) : Type 0 where
   pub begun : (u : ℕ) → Has from u → Has seen u
   pub sound : (w : ℕ) → Has seen w → FromSet (Avoid stop (Leads a)) from w
   pub passed : (x y : ℕ) → Has past x → Avoid stop (Leads a) x y → Has seen y
 
-pub searching : (a : List ℕ) (stop : ℕ) (from : Set) {past : Set} → past ≡ emptySet → Searching a stop from from past
-searching a stop from e = record { begun = λ u k. k; sound = λ w k. (w, k, here); passed = λ x y l. absurd (none x (rw e at l)) }
-
--- at first all that is seen is left
-pub all-left : (from : Set) {past : Set} → past ≡ emptySet → Difference from past from
-all-left from e w = ((λ h. (h, λ k. none w (rw e at k))), (λ h. h .0))
+-- at first what is closed is past
+pub searching : {a : List ℕ} {stop : ℕ} {closed set from : Set} → ClosedBut (Avoid stop (Leads a)) closed set → Union closed set from
+    → Searching a stop from from closed
+searching C U = record { begun = λ u k. k; sound = λ w k. (w, k, here); passed = λ x y l e. U y .1 (C x y l e) }
 
 module _ {a : List ℕ} {stop : ℕ} {from seen past left with-w : Set} {w : ℕ} (r : Search) (I : Searching a stop from seen past) (D : Difference seen past left) (L : Last left w)
     (W : (y : ℕ) → Has with-w y ↔ (Has past y ⊎ (y ≡ w))) (O : Visited a stop w (record { seen = seen; past = with-w }) r) where
@@ -91,19 +106,102 @@ module _ {a : List ℕ} {stop : ℕ} {from seen past left with-w : Set} {w : ℕ
   pub search-less : sizeOf past < sizeOf (r .past)
   search-less = size-lt past (r .past) w (λ y h. O .more y (W y .1 (inl h))) (O .more w (W w .1 (inr refl))) (D w .0 (L .has) .1)
 
-pub searched : {a : List ℕ} {stop : ℕ} {from seen past left : Set} → Searching a stop from seen past → Difference seen past left → Empty left → Members (FromSet (Avoid stop (Leads a)) from) seen
-searched {a} {stop} {from} {seen} {past} {left} I D E = record { exactly = λ w l. (I .sound w, λ (u, h, p). along p (I .begun u h)) }
+-- at the end all that is seen is past
+pub searched : {a : List ℕ} {stop : ℕ} {from seen past left : Set} → Searching a stop from seen past → Difference seen past left
+    → Empty left → Members (FromSet (Avoid stop (Leads a)) from) seen
+searched {a} {stop} {seen = seen} I D E = record { exactly = λ w l. (I .sound w, λ (u, k, p). stays whole p (I .begun u k)) }
   where
-    is-past : (w : ℕ) → Has seen w → Has past w
-    is-past w h = elim (has? past w) [ yes k ↦ k | no k ↦ absurd (E w (D w .1 (h, k))) ]
+    whole : Closed (Avoid stop (Leads a)) seen
+    whole x y h e = I .passed x y (all-in D E x h) e
 
-    along : {u w : ℕ} → Star (Avoid stop (Leads a)) u w → Has seen u → Has seen w
-    along here k = k
-    along {u} (step {w = x} e p) k = along p (I .passed u x (is-past u k) e)
+-- what is reached from what was closed was there, or is reached from the other set
+pub from-closed : {E : Edges} {closed set from r : Set} → ClosedBut E closed set → Union closed set from → Members (FromSet E from) r
+    → Members (InOrFrom E closed set) r
+from-closed C U M = record {
+  exactly = λ w l. (
+    λ h. let (u, k, p) = M .exactly w l .0 h in ⊎-elim (leaves C p) (λ g. inr (u, g, p)) (U u .0 k),
+    ⊎-elim (λ k. M .exactly w l .1 (w, U w .1 (inl k), here)) (λ (u, k, p). M .exactly w l .1 (u, U u .1 (inr k), p)),
+  );
+}
 
--- where nothing is known, nothing is asked of the table of what is
-pub known-none : (a after : List ℕ) → Known a after 0 0
-known-none a after = record { exactly = λ x y h l. absurd (omega (arith, l)) }
+-- the empty set is closed, and adds nothing
+pub none-closed : (E : Edges) {s other : Set} → s ≡ emptySet → ClosedBut E s other
+none-closed E e x y h = absurd (none x (rw e at h))
+
+pub from-alone : {E : Edges} {s set r : Set} → s ≡ emptySet → Members (InOrFrom E s set) r → Members (FromSet E set) r
+from-alone e M = record {
+  exactly = λ w l. (
+    λ h. ⊎-elim (λ k. absurd (none w (rw e at k))) (λ f. f) (M .exactly w l .0 h),
+    λ f. M .exactly w l .1 (inr f),
+  );
+}
+
+-- BY ROUNDS, where nothing is known: what is left leads on all at once
+pub has-stop : {none-yet past : Set} {stop : ℕ} → ((y : ℕ) → Has past y ↔ (Has none-yet y ⊎ (y ≡ stop))) → Has past stop
+has-stop W = W _ .1 (inr refl)
+
+-- nothing leaves stop
+pub round-none : {a : List ℕ} {stop : ℕ} {from none-yet past : Set} → none-yet ≡ emptySet
+    → ((y : ℕ) → Has past y ↔ (Has none-yet y ⊎ (y ≡ stop))) → Searching a stop from from past
+round-none e W = record {
+  begun = λ u k. k;
+  sound = λ w k. (w, k, here);
+  passed = λ x y l o. absurd (⊎-elim (λ h. none x (rw e at h)) (o .0) (W x .0 l));
+}
+
+module _ {a : List ℕ} {stop : ℕ} {from seen past left past′ : Set} (I : Searching a stop from seen past) (S : Has past stop)
+    (D : Difference seen past left) (P : Union past left past′) where
+  pub round-more : {new seen′ : Set} → Members (LedTo a left) new → Union seen new seen′ → Searching a stop from seen′ past′
+  round-more {new} N U = record {
+    begun = λ x k. U x .1 (inl (I .begun x k));
+    sound = λ w k. ⊎-elim (I .sound w) (led w) (U w .0 k);
+    passed = λ x y l e. ⊎-elim
+        (λ p. U y .1 (inl (I .passed x y p e)))
+        (λ h. U y .1 (inr (N .exactly y (e .1 .has .below) .1 (x, h, e .1 .has))))
+        (P x .0 l);
+  }
+    where
+      led : (w : ℕ) → Has new w → FromSet (Avoid stop (Leads a)) from w
+      led w g =
+          let (x, h, r) = N .exactly w (g .below) .0 g in
+          let (s, n) = D x .0 h in
+          let (u, k, p) = I .sound x s in
+          (u, k, star-snoc p ((λ e. n (subst (Has past) (sym e) S)), record { from = h .below; has = r }))
+
+  pub round-less : ¬ Empty left → sizeOf past < sizeOf past′
+  round-less n = let (w, h) = some-member left n in size-lt past past′ w (λ y g. P y .1 (inl g)) (P w .1 (inr h)) (D w .0 h .1)
+
+-- the table from its set 64 on
+upper : (a : List ℕ) (i : ℕ) → rowOf (take (length a - 128) (drop 128 a)) i ≡ rowOf a (64 + i)
+unfolding rowOf
+upper a i =
+    let all = take-all (length a - 128) (drop 128 a) (omega (arith, length-drop 128 a)) in
+    let e : 128 + 2 * i ≡ 2 * (64 + i) = omega arith in
+    let f : 128 + (2 * i + 1) ≡ 2 * (64 + i) + 1 = omega arith in
+    rw (all, getD-drop 128 a (2 * i) 0, getD-drop 128 a (2 * i + 1) 0, e, f)
+
+-- the sets of the members below 64, and those of the others
+pub led-to : (a : List ℕ) (s : Set) {lo hi r : Set} → SetFits s → Members (InSome a (s .lo)) lo
+    → Members (InSome (take (length a - 128) (drop 128 a)) (s .hi)) hi → Union lo hi r → Members (LedTo a s) r
+led-to a s {lo} {hi} F L H U = record { exactly = λ y l. (λ h. to y l (U y .0 h), λ (x, h, g). U y .1 (from y l x h g)) }
+  where
+    to : (y : ℕ) → y < 128 → Has lo y ⊎ Has hi y → LedTo a s y
+    to y l (inl h) = let (i, on, g) = L .exactly y l .0 h in (i, low-has s i (bit-below 64 (s .lo) i (F .0) on) on, g)
+    to y l (inr h) =
+        let (i, on, g) = H .exactly y l .0 h in
+        (64 + i, high-has s i (bit-below 64 (s .hi) i (F .1) on) on, rw (upper a i) at g)
+
+    from : (y : ℕ) → y < 128 → (x : ℕ) → Has s x → HasRow a x y → Has lo y ⊎ Has hi y
+    from y l x h g = elim (decLt x 64) [
+      | yes k ↦ inl (L .exactly y l .1 (x, has-low s x k h, g))
+      | no k ↦ inr (past-64 y l (x - 64) (subst (Has s) (above x k) h) (subst (λ (z : ℕ). HasRow a z y) (above x k) g))
+    ]
+      where
+        above : (x : ℕ) → ¬ (x < 64) → x ≡ 64 + (x - 64)
+        above x k = omega (arith, k)
+
+        past-64 : (y : ℕ) → y < 128 → (i : ℕ) → Has s (64 + i) → HasRow a (64 + i) y → Has hi y
+        past-64 y l i h g = H .exactly y l .1 (i, has-high s i (omega (arith, h .below)) h, rw (upper a i) g)
 
 -- the search from the successors of w, stopping at w
 module _ (a : List ℕ) (w : ℕ) (r : Set) (l : w < 128) (C : Members (FromSet (Avoid w (Leads a)) (rowOf a w)) r) where
@@ -148,7 +246,7 @@ turned k n false h = (k, h, refl)
 -- nothing is known before the first turn, then the vertex of the turn too, and at the end all
 pub turns-none : (a after : List ℕ) (n : ℕ) (down : Bool) → Known a after (beginOf 0 n down) (endOf 0 n down)
 turns-none a after n true = record { exactly = λ x y h l. absurd (omega (arith, h, l)) }
-turns-none a after n false = known-none a after
+turns-none a after n false = record { exactly = λ x y h l. absurd (omega (arith, l)) }
 
 pub turn-more : (i n w : ℕ) (down : Bool) → i < n → w ≡ turnOf i n down → (x : ℕ) → x ≢ w → beginOf (i + 1) n down ≤ x → x < endOf (i + 1) n down → (beginOf i n down ≤ x) × (x < endOf i n down)
 turn-more i n w true h e x d p q = (omega (arith, h, e, d, p, q), q)

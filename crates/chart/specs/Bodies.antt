@@ -66,3 +66,11 @@ pub record Sound (b : List ℕ) (i : ℕ) : Type 0 where
 -- a transition that 21 refuses
 abbrev pub Faulty : List ℕ → ℕ → Type 0
 Faulty b i = (i < countOf b) × ¬ Sound b i
+
+-- 20 lets the body pass, and 21 the transitions before byte p
+pub record SoundTo (b : List ℕ) (p : ℕ) : Type 0 where
+  pub header : HeaderFits b
+  pub passed : ℕ
+  pub place : p ≡ 4 * passed + 4
+  pub within : passed ≤ countOf b
+  pub each : (i : ℕ) → i < passed → Sound b i

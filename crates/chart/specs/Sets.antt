@@ -17,9 +17,25 @@ pub record Leads (a : List ℕ) (x y : ℕ) : Type 0 where
   pub from : x < 128
   pub has : HasRow a x y
 
+-- y is in set x of the table, for a member x of the set
+abbrev pub LedTo : List ℕ → Set → ℕ → Type 0
+LedTo a s y = (x : ℕ) × Has s x × HasRow a x y
+
 -- a path leads from a member of the set to w
 abbrev pub FromSet : Edges → Set → ℕ → Type 0
 FromSet E s w = (u : ℕ) × Has s u × Star E u w
+
+-- with each of its vertices the set has those that E leads to from there
+abbrev pub Closed : Edges → Set → Type 0
+Closed E s = (x y : ℕ) → Has s x → E x y → Has s y
+
+-- or those are in another set
+abbrev pub ClosedBut : Edges → Set → Set → Type 0
+ClosedBut E s other = (x y : ℕ) → Has s x → E x y → Has s y ⊎ Has other y
+
+-- w is in a set, or a path leads to it from a member of another
+abbrev pub InOrFrom : Edges → Set → Set → ℕ → Type 0
+InOrFrom E closed s w = Has closed w ⊎ FromSet E s w
 
 -- for each x from `from` up to `to`, set x of after has what x reaches by one step or more
 pub record Known (a after : List ℕ) (from to : ℕ) : Type 0 where

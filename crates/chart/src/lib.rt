@@ -3,11 +3,12 @@ pub mod images;
 pub mod sets;
 
 ghost use mathlib.Core.Path.{_≡_};
-ghost use Prim.Native.Nat.{ℕ, _+_, _*_, _≤_, _<_};
-ghost use lib.ListN.{length, getD};
-ghost use Rattle.chart.specs.Bodies.{countOf};
+ghost use mathlib.Core.Bool.{true};
+ghost use Prim.Native.Nat.{_+_, _*_, _≤_, _<_};
+ghost use lib.ListN.{length};
+ghost use Rattle.chart.specs.Bodies.{verticesOf, countOf, HeaderFits, SoundTo};
 ghost use Rattle.chart.specs.Checks.{headerOk, checkOf};
-ghost use Rattle.chart.specs.Codes.{reversedOf, codeOk};
+ghost use Rattle.chart.specs.Codes.{reversedOf, codeRises, codeOk, Turn};
 ghost use Rattle.chart.specs.Leaving.{leavingAt, leavingOf, FromBelow, RangeOf, NotPast, Begins};
 ghost use Rattle.chart.specs.Steps.{Kept};
 ghost use Rattle.bits.specs.First.{Split};
@@ -41,8 +42,7 @@ fn header_ok(body: &[u8]) -> bool
 }
 
 // The bytes of a transition's code, the first highest: the order of charts.
-fn reversed(code: usize) -> usize
-    requires { ⌜ code < 4294967296 ⌝ }
+fn reversed(code: u32) -> u32
     ensures { λ r. ⌜ r ≡ reversedOf code ⌝ }
 {
     16777216 * (code % 256)
@@ -51,26 +51,77 @@ fn reversed(code: usize) -> usize
         + code / 16777216
 }
 
-// 21 of a transition by its code and its key, the code reversed, after the key before it. That is 16777215 or more, so
-// the first comparison refuses a from of 0; the last refuses a last byte other than 0.
-fn code_ok(code: usize, key: usize, v: usize, before: usize) -> bool
+// 21 of a transition but for a from of V or above, by its code and its key, the code reversed, after the key before it.
+// That is 16777215 or more, so the first comparison refuses a from of 0; the last refuses a last byte other than 0.
+fn code_rises(code: u32, key: u32, v: u32, before: u32) -> bool
+    requires { ⌜ v ≤ 128 ⌝ }
+    ensures { λ r. ⌜ r ≡ codeRises code key v before ⌝ }
+{
+    (before < key) & (1 <= code / 256 % 256) & (code < 65536 * v)
+}
+
+// 21 of a transition.
+fn code_ok(code: u32, key: u32, v: u32, before: u32) -> bool
     requires { ⌜ v ≤ 128 ⌝ }
     ensures { λ r. ⌜ r ≡ codeOk code key v before ⌝ }
 {
-    (before < key) & (key < 16777216 * v) & (1 <= code / 256 % 256) & (code < 65536 * v)
+    code_rises(code, key, v, before) & (key < 16777216 * v)
 }
 
-// What 20 and 21 say of a chart body.
-pub fn check(body: &[u8]) -> Stage
+// The key before byte p. Before the first transition that is the number just below the keys whose from is 1.
+fn key_before(body: &[u8], p: usize) -> u32
+    requires { ⌜ SoundTo (now body) p ⌝ }
+    ensures { λ r. ⌜ Turn (now (body .entry)) p r ⌝ }
+{
+    if p == 4 {
+        return 16777215;
+    }
+    reversed(read_u32(body, p - 4))
+}
+
+// Whether 21 lets the 32 transitions from byte p on pass, where `first` is the key before them. A refusal does not end
+// the loop, so that the compiler tests several at once; keys rise, so the last one's from is below V if each one's is.
+fn block_ok(body: &[u8], p: usize, v: u32, first: u32) -> bool
+    requires { ⌜ Turn (now body) p first × (v ≡ verticesOf (now body)) × (p + 128 ≤ length (now body)) ⌝ }
+    ensures { λ r. ⌜ (r ≡ true → SoundTo (now (body .entry)) (p + 128)) ⌝ }
+{
+    let mut good = true;
+    let mut before = first;
+    let mut i: usize = 0;
+    while i < 32 {
+        let code = read_u32(body, p + 4 * i);
+        let key = reversed(code);
+        good = good & code_rises(code, key, v, before);
+        before = key;
+        i += 1;
+    }
+    good & (before < 16777216 * v)
+}
+
+// The end of the blocks of 32 transitions that pass, from the first on.
+fn sound_until(body: &[u8], v: u32) -> usize
+    requires { ⌜ HeaderFits (now body) × (v ≡ verticesOf (now body)) ⌝ }
+    ensures { λ r. ⌜ SoundTo (now (body .entry)) r ⌝ }
+{
+    let mut p: usize = 4;
+    let mut before = key_before(body, p);
+    while p + 128 <= body.len() {
+        if !block_ok(body, p, v, before) {
+            return p;
+        }
+        p += 128;
+        before = key_before(body, p);
+    }
+    p
+}
+
+// The check from byte `at` on, where the transitions before it have passed.
+fn check_from(body: &[u8], v: u32, at: usize) -> Stage
+    requires { ⌜ SoundTo (now body) at × (v ≡ verticesOf (now body)) ⌝ }
     ensures { λ r. ⌜ r ≡ checkOf (now (body .entry)) ⌝ }
 {
-    if !header_ok(body) {
-        return Stage::Refused(Place::ChartHeader);
-    }
-    let v = byte(body, 0);
-    // just below the keys whose from is 1
-    let mut before: usize = 16777215;
-    let mut p: usize = 4;
+    let mut before = key_before(body, at);
+    let mut p = at;
     while p + 4 <= body.len() {
         let code = read_u32(body, p);
         let key = reversed(code);
@@ -81,6 +132,18 @@ pub fn check(body: &[u8]) -> Stage
         p += 4;
     }
     Stage::Passed
+}
+
+// What 20 and 21 say of a chart body.
+pub fn check(body: &[u8]) -> Stage
+    ensures { λ r. ⌜ r ≡ checkOf (now (body .entry)) ⌝ }
+{
+    if !header_ok(body) {
+        return Stage::Refused(Place::ChartHeader);
+    }
+    let v = byte(body, 0) as u32;
+    let at = sound_until(body, v);
+    check_from(body, v, at)
 }
 
 // The number of transitions whose from is below v, by halving: froms do not fall.

@@ -3,13 +3,15 @@ use bits::Set;
 use bits::tables::in_row;
 use bits::tables::put_row;
 use bits::tables::row;
+use bits::tables::united;
 ghost use mathlib.Core.Path.{_≡_};
 ghost use mathlib.Core.Bool.{true};
 ghost use Prim.Native.Nat.{_≤_, _<_};
 ghost use lib.ListN.{length};
 ghost use Rattle.bits.specs.Sets.{Members};
 ghost use Rattle.theory.specs.Paths.{Avoid};
-ghost use Rattle.chart.specs.Sets.{Leads, FromSet, Known, turnOf, beginOf, endOf, Jumps, Visited, Searched, Cycles};
+ghost use Rattle.chart.specs.Sets.{Leads, LedTo, FromSet, ClosedBut, InOrFrom, Known, Jumps, Visited};
+ghost use Rattle.chart.specs.Sets.{turnOf, beginOf, endOf, Searched, Cycles};
 
 // What is seen, and those of it whose successors are seen too.
 pub struct Search {
@@ -76,8 +78,40 @@ fn visit(
     }
 }
 
-// What the table `next` reaches from a set, never leaving `stop`; the end, 0, stops nothing. Set x of `after` has,
-// for each x from `from` up to `to`, what x reaches by one step or more.
+// What the table `next` reaches from a set, never leaving `stop`, and what is in a set that is closed under it but for
+// the other one; the end, 0, stops nothing. Set x of `after` has, for each x from `from` up to `to`, what x reaches by one step or more.
+pub fn closure_from(
+    next: &[u64; 256],
+    after: &[u64; 256],
+    from: usize,
+    to: usize,
+    stop: usize,
+    closed: Set,
+    set: Set,
+) -> Set
+    requires { ⌜ (length (now next) ≡ 256)
+        × (length (now after) ≡ 256)
+        × Known (now next) (now after) from to
+        × (stop < 128)
+        × ClosedBut (Avoid stop (Leads (now next))) closed set ⌝ }
+    ensures { λ r. ⌜ Members (InOrFrom (Avoid stop (Leads (now (next .entry)))) closed set) r ⌝ }
+{
+    let mut seen = closed.union(set);
+    let mut past = closed;
+    let mut left = seen.difference(past);
+    while !left.is_empty() {
+        let marked = past.with_highest(left);
+        past = marked.set;
+        let before = Search { seen, past };
+        let s = visit(next, after, from, to, stop, marked.at, before);
+        seen = s.seen;
+        past = s.past;
+        left = seen.difference(past);
+    }
+    seen
+}
+
+// The same from a set alone.
 pub fn closure_knowing(
     next: &[u64; 256],
     after: &[u64; 256],
@@ -92,27 +126,33 @@ pub fn closure_knowing(
         × (stop < 128) ⌝ }
     ensures { λ r. ⌜ Members (FromSet (Avoid stop (Leads (now (next .entry)))) set) r ⌝ }
 {
-    let mut seen = set;
-    let mut past = Set::empty();
-    let mut left = set;
-    while !left.is_empty() {
-        let marked = past.with_highest(left);
-        past = marked.set;
-        let before = Search { seen, past };
-        let s = visit(next, after, from, to, stop, marked.at, before);
-        seen = s.seen;
-        past = s.past;
-        left = seen.difference(past);
-    }
-    seen
+    closure_from(next, after, from, to, stop, Set::empty(), set)
 }
 
-// The same where nothing is known.
+// What the members of a set lead to by one step.
+fn led_to(next: &[u64], set: Set) -> Set
+    requires { ⌜ length (now next) ≡ 256 ⌝ }
+    ensures { λ r. ⌜ Members (LedTo (now (next .entry)) set) r ⌝ }
+{
+    united(next, set.lo).union(united(&next[128..], set.hi))
+}
+
+// What the table `next` reaches from a set, never leaving `stop`, where nothing is known: a round takes all that is new
+// at once.
 pub fn closure(next: &[u64; 256], stop: usize, set: Set) -> Set
     requires { ⌜ (length (now next) ≡ 256) × (stop < 128) ⌝ }
     ensures { λ r. ⌜ Members (FromSet (Avoid stop (Leads (now (next .entry)))) set) r ⌝ }
 {
-    closure_knowing(next, next, 0, 0, stop, set)
+    let mut seen = set;
+    // nothing leaves `stop`: it is past from the start
+    let mut past = Set::empty().with(stop);
+    let mut left = seen.difference(past);
+    while !left.is_empty() {
+        past = past.union(left);
+        seen = seen.union(led_to(next, left));
+        left = seen.difference(past);
+    }
+    seen
 }
 
 // The vertex of turn i: the first n from above, or from below.
@@ -177,9 +217,10 @@ pub fn cycle(next: &[u64; 256], n: usize, after: &mut [u64; 256]) -> usize
     requires { ⌜ (length (now next) ≡ 256) × (n ≤ 128) × (length (now after) ≡ 256) ⌝ }
     ensures { λ r. ⌜ Cycles (now (next .entry)) n (now (after .entry)) r (now (after .exit)) ⌝ }
 {
-    // where vertices lead up, as vertex 1 tells, more is known by turns from above
-    let first = row(next, 1);
-    if (first.lo <= 3) & (first.hi == 0) {
+    // where vertices lead up, as the one half way tells, more is known by turns from above
+    let half = n / 2;
+    let w = row(next, half).lowest();
+    if (w < half) | (w == 128) {
         return cycle_from_below(next, n, after);
     }
     if first_turn(next, n, true, after) == n {

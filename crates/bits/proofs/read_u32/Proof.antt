@@ -30,7 +30,10 @@ four-bytes-requires : tie.Need-four-bytes-requires
 four-bytes-requires c κs = search needs
 
 returns : tie.Need-returns
-returns c = let k = c .before .before .before .before .before .before in (c .four-bytes .ensures .0, packed-four (k .args .s .now) (k .args .at) _ (λ j h. omega (arith, c .before .shared-slice-known5 .given (k .args .at + j))) (c .four-bytes .ensures .0))
+returns c =
+    let k = c .before .before .before .before .before .before in
+    let e = c .four-bytes .ensures in
+    (e, packed-four (k .args .s .now) (k .args .at) _ (λ j h. omega (arith, c .before .shared-slice-known5 .given (k .args .at + j))) e)
 
 pub read-u32-spec : {M : Type 1} → statement M
 read-u32-spec =

@@ -13,6 +13,12 @@ add-read-u32 c = search needs
 read-u32-requires-2 : tie.Need-read-u32-requires-2
 read-u32-requires-2 c κs = search needs
 
+cast-result : tie.Need-cast-result
+cast-result c = search needs
+
+cast-result-2 : tie.Need-cast-result-2
+cast-result-2 c = search needs
+
 mul-result : tie.Need-mul-result
 mul-result c = search needs
 
@@ -25,4 +31,4 @@ returns c = packed-twice {n = 4} (omega (arith, c .before .read-u32 .ensures .1 
 pub read-u64-spec : {M : Type 1} → statement M
 read-u64-spec =
     tie.close
-    (tie.spec read-u32-requires add-read-u32 read-u32-requires-2 mul-result add-result returns)
+    (tie.spec read-u32-requires add-read-u32 read-u32-requires-2 cast-result cast-result-2 mul-result add-result returns)

@@ -1,70 +1,16 @@
+use Rattle.chart.proofs.Searches.{none-closed, from-alone}
 use borrow.Author.Needs.{needs}
-use mathlib.Core.Path.{_≡_, sym, _∙_}
-use mathlib.Core.Bool.{true≢false}
-use Prim.Native.Nat.{_-_, _<_}
-use native.Mathlib.Omega.{arith}
-use lib.ListN.{length}
-use borrow.Author.Tests.{not-true, not-false}
-use Rattle.bits.specs.Sets.{Difference, sizeOf}
-use Rattle.bits.proofs.Members.{size-few}
-use Rattle.chart.specs.Sets.{Known}
-use Rattle.chart.proofs.Searches.{Searching, searching, all-left, search-on, search-less, searched}
 use Rattle.chart.proofs.sets.closure_knowing.Statement.{statement}
 use Rattle.chart.proofs.sets.closure_knowing.Tie as tie
 
-abbrev Inv-loop : tie.InvT-loop
-Inv-loop next after from to stop seen₀ past₀ left₀ seen past left = (length next ≡ 256) × (length after ≡ 256) × Known next after from to × (stop < 128) × Searching next stop seen₀ seen past × Difference seen past left
-
-abbrev μ-loop : tie.MeasureT-loop
-μ-loop next after from to stop seen₀ past₀ left₀ seen past left = 128 - sizeOf past
-
-empty-requires : tie.Need-empty-requires Inv-loop μ-loop
+empty-requires : tie.Need-empty-requires
 empty-requires c κs = search needs
 
-loop-holds : tie.Need-loop-holds Inv-loop μ-loop
-loop-holds c = let k = c .before in (k .pre .0, k .pre .1, k .pre .2, k .pre .3, searching _ _ _ (c .empty .ensures), all-left _ (c .empty .ensures))
+closure-from-requires : tie.Need-closure-from-requires
+closure-from-requires c κs = let p = c .before .pre in (p .0, p .1, p .2, p .3, none-closed _ (c .empty .ensures))
 
-is-empty-requires : tie.Need-is-empty-requires Inv-loop μ-loop
-is-empty-requires c κs = search needs
-
-with-highest-requires : tie.Need-with-highest-requires Inv-loop μ-loop
-with-highest-requires c κs = λ e. true≢false (sym (c .before .is-empty .ensures .1 e) ∙ not-true _ (c .if1 .taken))
-
-visit-requires : tie.Need-visit-requires Inv-loop μ-loop
-visit-requires c κs = let i = c .before .before .before .before .loop .inv in (i .0, i .1, i .2, i .3, c .before .with-highest .ensures .0 .has .below)
-
-difference-requires : tie.Need-difference-requires Inv-loop μ-loop
-difference-requires c κs = search needs
-
-loop-less : tie.Need-loop-less Inv-loop μ-loop
-loop-less c =
-    let l = c .before .before .before .before .before .before .before .before .loop in
-    let m = c .before .before .before .before .before .with-highest .ensures in
-    let v = c .before .before .before .visit in
-    omega (arith, size-few (v .result .past), search-less (v .result) (l .inv .4) (l .inv .5) (m .0) (m .1) (v .ensures))
-
-loop-again : tie.Need-loop-again Inv-loop μ-loop
-loop-again c =
-    let l = c .before .before .before .before .before .before .before .before .loop in
-    let m = c .before .before .before .before .before .with-highest .ensures in
-    let v = c .before .before .before .visit in
-    (l .inv .0, l .inv .1, l .inv .2, l .inv .3, search-on (v .result) (l .inv .4) (l .inv .5) (m .0) (m .1) (v .ensures), c .difference .ensures)
-
-returns : tie.Need-returns Inv-loop μ-loop
-returns c = let i = c .before .before .loop .inv in searched (i .4) (i .5) (c .before .is-empty .ensures .0 (not-false _ (c .if1 .left)))
+returns : tie.Need-returns
+returns c = from-alone (c .before .empty .ensures) (c .closure-from .ensures)
 
 pub closure-knowing-spec : {M : Type 1} → statement M
-closure-knowing-spec =
-    tie.close
-    (tie.spec
-    Inv-loop
-    μ-loop
-    empty-requires
-    loop-holds
-    is-empty-requires
-    with-highest-requires
-    visit-requires
-    difference-requires
-    loop-less
-    loop-again
-    returns)
+closure-knowing-spec = tie.close (tie.spec empty-requires closure-from-requires returns)

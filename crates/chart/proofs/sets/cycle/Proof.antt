@@ -6,6 +6,9 @@ use Rattle.chart.proofs.sets.cycle.Tie as tie
 row-requires : tie.Need-row-requires
 row-requires c κs = search needs
 
+lowest-requires : tie.Need-lowest-requires
+lowest-requires c κs = search needs
+
 cycle-from-below-requires : tie.Need-cycle-from-below-requires
 cycle-from-below-requires c κs = search needs
 
@@ -29,6 +32,7 @@ cycle-spec =
     tie.close
     (tie.spec
     row-requires
+    lowest-requires
     cycle-from-below-requires
     returns
     first-turn-requires
