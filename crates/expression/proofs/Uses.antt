@@ -34,9 +34,9 @@ set-le (x ∷ a) zero v (suc j) m h q = q
 set-le (x ∷ a) (suc l) v zero m h q = q
 set-le (x ∷ a) (suc l) v (suc j) m h q = set-le a l v j m h q
 
-pub bump-le : (a b : List ℕ) (l j : ℕ) → b ≡ bump a l → AtMost 254 a → getD b j 0 ≤ 255
+pub bump-le : (a b : List ℕ) (l j : ℕ) → b ≡ bump a l → AtMost 252 a → getD b j 0 < 255
 unfolding bump
-bump-le a b l j e h = let p = h .each l in let q = h .each j in rw e (set-le a l (getD a l 0 + 1) j 255 (omega arith) (omega arith))
+bump-le a b l j e h = let p = h .each l in let q = h .each j in rw e (let m = set-le a l (getD a l 0 + 1) j 254 (omega arith) (omega arith) in omega (arith, m))
 
 tally-long : (v : Node) (a : List ℕ) → length (tally v a) ≡ length a
 unfolding bump
@@ -95,8 +95,9 @@ uses-le nd (suc n) j = let i = uses-le nd n j in let h = by-one (nd n) in omega 
     by-one (leaf x) = omega arith
     by-one (bin o l r) = let p = le-one (eqb l j) in let q = le-one (eqb r j) in omega arith
 
-pub uses-few : (s : List ℕ) (k : ℕ) (a : List ℕ) → k ≤ 127 → Tallied s k a → AtMost 254 a
-uses-few s k a h i = record { each = λ j. let p = uses-le (node s) k j in let q = i .each j in omega arith }
+-- the first k nodes, m of them at most, use a node twice each at most
+pub uses-few : (s : List ℕ) (k m : ℕ) (a : List ℕ) → k ≤ m → Tallied s k a → AtMost (2 * m) a
+uses-few s k m a h i = record { each = λ j. let p = uses-le (node s) k j in let q = i .each j in omega arith }
 
 no-uses : (s : List ℕ) (m j : ℕ) → getD (replicate {A = ℕ} m 0) j 0 ≡ usesBelow s 0 j
 unfolding uses

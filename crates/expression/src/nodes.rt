@@ -89,8 +89,8 @@ pub(crate) fn node_count(nodes: &[u8]) -> usize
 }
 
 // One more use of node j.
-fn add_use(uses: &mut [usize; 128], j: usize)
-    requires { ⌜ (j < 128) × (getD (now uses) j 0 ≤ 255) ⌝ }
+fn add_use(uses: &mut [u8; 128], j: usize)
+    requires { ⌜ (j < 128) × (getD (now uses) j 0 < 255) ⌝ }
     ensures { λ _. ⌜ now (uses .exit) ≡ bump (now (uses .entry)) j ⌝ }
 {
     let a = uses[j];
@@ -98,8 +98,8 @@ fn add_use(uses: &mut [usize; 128], j: usize)
 }
 
 // Adds the uses that node k makes of its operands.
-fn add_uses(nodes: &[u8], k: usize, uses: &mut [usize; 128])
-    requires { ⌜ NodeAt (now nodes) k × AtMost 254 (now uses) ⌝ }
+fn add_uses(nodes: &[u8], k: usize, uses: &mut [u8; 128])
+    requires { ⌜ NodeAt (now nodes) k × AtMost 252 (now uses) ⌝ }
     ensures { λ _. ⌜ now (uses .exit) ≡ tally (node (now (nodes .entry)) k) (now (uses .entry)) ⌝ }
 {
     if kind_of(nodes, k) < SUM {
@@ -112,11 +112,11 @@ fn add_uses(nodes: &[u8], k: usize, uses: &mut [usize; 128])
 }
 
 // How often each node is an operand, in one pass over the nodes.
-fn count_uses(nodes: &[u8], n: usize) -> [usize; 128]
+fn count_uses(nodes: &[u8], n: usize) -> [u8; 128]
     requires { ⌜ Sized (now nodes) × (n ≡ count (now nodes)) × (n ≤ malformed (now nodes)) ⌝ }
     ensures { λ r. ⌜ Tallied (now (nodes .entry)) (count (now (nodes .entry))) r ⌝ }
 {
-    let mut uses = [0usize; 128];
+    let mut uses = [0u8; 128];
     let mut k: usize = 0;
     while k < n {
         add_uses(nodes, k, &mut uses);
@@ -126,7 +126,7 @@ fn count_uses(nodes: &[u8], n: usize) -> [usize; 128]
 }
 
 // 12: the lowest of the first m nodes that is not an operand exactly once, or m.
-fn lowest_misused(uses: &[usize; 128], m: usize) -> usize
+fn lowest_misused(uses: &[u8; 128], m: usize) -> usize
     requires { ⌜ m ≤ 128 ⌝ }
     ensures { λ r. ⌜ r ≡ lowestFailing (onceIn (now (uses .entry))) 0 m ⌝ }
 {
@@ -153,7 +153,7 @@ pub(crate) fn check_nodes(nodes: &[u8]) -> Stage
     let uses = count_uses(nodes, n);
     let j = lowest_misused(&uses, n - 1);
     if j < n - 1 {
-        return Stage::Refused(Place::NodeUses(j, uses[j]));
+        return Stage::Refused(Place::NodeUses(j, uses[j] as usize));
     }
     Stage::Passed
 }

@@ -14,7 +14,7 @@ ghost use Rattle.expression.specs.Words.{LeafRanks, RanksOf, JoinedWord,
 ghost use Rattle.expression.specs.Listing.{bitsFrom};
 
 // The word of a node without operands: no bit for a deadlock, that of its rank for an action.
-fn leaf_word<'a>(nodes: &'a [u8], ranks: &'a [usize; 128], k: usize) -> u64
+fn leaf_word<'a>(nodes: &'a [u8], ranks: &'a [u8; 128], k: usize) -> u64
     requires { ⌜ WellFormed (now nodes)
         × (k < count (now nodes))
         × LeafRanks (now nodes) (now ranks)
@@ -24,7 +24,7 @@ fn leaf_word<'a>(nodes: &'a [u8], ranks: &'a [usize; 128], k: usize) -> u64
     if kind_of(nodes, k) == DEADLOCK {
         return 0;
     }
-    let rank = ranks[k];
+    let rank = ranks[k] as usize;
     bits::with_bit(0, rank)
 }
 
@@ -40,7 +40,7 @@ fn joined_word(kind: usize, left: u64, right: u64) -> u64
 
 // Fills the words of node k and of the nodes below it, each from those of its operands, at the vertex of each; the word
 // of node k. The recursion ends because operands are lower.
-fn fill_words<'a>(nodes: &'a [u8], ranks: &'a [usize; 128], k: usize, words: &mut [u64; 128]) -> u64
+fn fill_words<'a>(nodes: &'a [u8], ranks: &'a [u8; 128], k: usize, words: &mut [u64; 128]) -> u64
     requires { ⌜ WellFormed (now nodes)
         × (k < count (now nodes))
         × LeafRanks (now nodes) (now ranks)
@@ -66,7 +66,7 @@ fn fill_words<'a>(nodes: &'a [u8], ranks: &'a [usize; 128], k: usize, words: &mu
 pub(crate) fn first_words<'a>(
     nodes: &'a [u8],
     n: usize,
-    ranks: &'a [usize; 128],
+    ranks: &'a [u8; 128],
     words: &mut [u64; 128],
 )
     requires { ⌜ WellFormed (now nodes) × (n ≡ count (now nodes)) × LeafRanks (now nodes) (now ranks) ⌝ }

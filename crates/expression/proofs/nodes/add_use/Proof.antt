@@ -5,17 +5,11 @@ use Rattle.expression.specs.Uses.{bump}
 use Rattle.expression.proofs.nodes.add_use.Statement.{statement}
 use Rattle.expression.proofs.nodes.add_use.Tie as tie
 
-mul-a : tie.Need-mul-a
-mul-a c = search needs
-
 element-copy-out-a : tie.Need-element-copy-out-a
 element-copy-out-a c = search needs
 
 add-uses : tie.Need-add-uses
 add-uses c = search needs
-
-mul-uses : tie.Need-mul-uses
-mul-uses c = search needs
 
 element-write-uses : tie.Need-element-write-uses
 element-write-uses c = search needs
@@ -26,4 +20,4 @@ returns c = refl
 
 pub add-use-spec : {M : Type 1} → statement M
 add-use-spec =
-    tie.close (tie.spec mul-a element-copy-out-a add-uses mul-uses element-write-uses returns)
+    tie.close (tie.spec element-copy-out-a add-uses element-write-uses returns)

@@ -2,6 +2,7 @@
 use native.Mathlib.Omega.{arith}
 use borrow.Author.Needs.{needs}
 use Rattle.expression.proofs.Answers.{check-11, check-12, check-passed}
+use Rattle.expression.proofs.Uses.{uses-few}
 use Rattle.expression.proofs.nodes.check_nodes.Statement.{statement}
 use Rattle.expression.proofs.nodes.check_nodes.Tie as tie
 
@@ -26,11 +27,15 @@ lowest-misused-requires c κs = search needs
 sub-if2 : tie.Need-sub-if2
 sub-if2 c = search needs
 
-mul-t11 : tie.Need-mul-t11
-mul-t11 c = search needs
+array-read-t13 : tie.Need-array-read-t13
+array-read-t13 c = search needs
 
-array-read-t14 : tie.Need-array-read-t14
-array-read-t14 c = search needs
+cast-t14 : tie.Need-cast-t14
+cast-t14 c =
+    let uses = c .before .before .before in
+    let n = uses .before .before .before in
+    let few = uses-few _ _ 127 _ (n .before .before .pre .few) (uses .count-uses .ensures) in
+    omega (arith, few .each (c .before .lowest-misused .result))
 
 returns-2 : tie.Need-returns-2
 returns-2 c =
@@ -55,7 +60,7 @@ check-nodes-spec =
     sub-lowest-misused
     lowest-misused-requires
     sub-if2
-    mul-t11
-    array-read-t14
+    array-read-t13
+    cast-t14
     returns-2
     returns-3)

@@ -30,7 +30,7 @@ loop-holds c =
 add-uses-requires : tie.Need-add-uses-requires Inv-loop μ-loop
 add-uses-requires c κs =
     let i = c .before .before .loop .inv in
-    (record { sized = i .0; inside = omega arith; good = i .2 _ (omega arith) }, uses-few _ _ _ (omega arith) (i .4))
+    (record { sized = i .0; inside = omega arith; good = i .2 _ (omega arith) }, uses-few _ _ 126 _ (omega arith) (i .4))
 
 add-k : tie.Need-add-k Inv-loop μ-loop
 add-k c = search needs

@@ -24,23 +24,14 @@ right-of-requires c κs =
     let p = c .before .before .before .before .pre in
     (node-at _ (p .0) _ (p .1), omega (arith, c .before .before .kind-of .ensures))
 
-mul-own : tie.Need-mul-own
-mul-own c = search needs
-
 element-copy-out-own : tie.Need-element-copy-out-own
 element-copy-out-own c = search needs
 
 left-target-requires : tie.Need-left-target-requires
 left-target-requires c κs = search needs
 
-mul-targets : tie.Need-mul-targets
-mul-targets c = search needs
-
 element-write-targets : tie.Need-element-write-targets
 element-write-targets c = search needs
-
-mul-targets-2 : tie.Need-mul-targets-2
-mul-targets-2 c = search needs
 
 element-write-targets-2 : tie.Need-element-write-targets-2
 element-write-targets-2 c = search needs
@@ -59,11 +50,8 @@ aim-operands-spec =
     returns
     left-of-requires
     right-of-requires
-    mul-own
     element-copy-out-own
     left-target-requires
-    mul-targets
     element-write-targets
-    mul-targets-2
     element-write-targets-2
     returns-2)

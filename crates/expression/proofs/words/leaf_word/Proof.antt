@@ -15,11 +15,14 @@ returns c =
     let p = c .before .before .before .pre in
     word-dead _ (p .0) _ (p .1) _ (sym (c .before .kind-of .ensures) ∙ c .if1 .taken)
 
-mul-rank : tie.Need-mul-rank
-mul-rank c = search needs
-
 element-copy-out-rank : tie.Need-element-copy-out-rank
 element-copy-out-rank c = search needs
+
+cast-rank : tie.Need-cast-rank
+cast-rank c =
+    let p = c .before .before .before .before .pre in
+    let r = p .2 .each _ (p .1) (omega (arith, c .before .before .kind-of .ensures, c .before .if1 .left, p .3)) in
+    omega (arith, r)
 
 with-bit-requires : tie.Need-with-bit-requires
 with-bit-requires c κs =
@@ -34,4 +37,4 @@ returns-2 c =
 pub leaf-word-spec : {M : Type 1} → statement M
 leaf-word-spec =
     tie.close
-    (tie.spec kind-of-requires returns mul-rank element-copy-out-rank with-bit-requires returns-2)
+    (tie.spec kind-of-requires returns element-copy-out-rank cast-rank with-bit-requires returns-2)
