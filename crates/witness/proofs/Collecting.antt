@@ -1,128 +1,191 @@
--- The tables, collected vertex by vertex: one transition more of a vertex, and one vertex more in the tables.
+-- The tables, collected vertex by vertex: one run of transitions more of a vertex, and one vertex more in the tables.
 use mathlib.Core.Path.{_≡_, refl, sym, _∙_, subst}
 use mathlib.Core.Logic.{_≢_, _⊎_, inl, inr, ⊎-elim, by-cases, _↔_}
 use mathlib.Core.List.{List}
 use Prim.Native.Nat.{ℕ, _+_, _≤_, _<_}
-use native.Mathlib.Decide.{ℕ-discrete, decLt}
+use native.Mathlib.Decide.{ℕ-discrete}
 use native.Mathlib.Omega.{arith}
-use lib.ListN.{getD, set, replicate, length-set, length-replicate}
-use lib.Seq.{getD-set-same, getD-set-other}
-use Rattle.bits.specs.First.{First}
+use lib.ListN.{getD, replicate}
 use Rattle.bits.specs.declared.sets.Set.{Set}
-use Rattle.bits.specs.Sets.{Members, Union}
+use Rattle.bits.specs.Sets.{emptySet, Members, Union}
 use Rattle.bits.specs.Tables.{HasRow, putRow, Table, Gains}
-use Rattle.bits.proofs.Members.{⊎-map}
-use Rattle.bits.proofs.Gains.{filled, put-long, put-here, put-other, gains-none, gained, table-as, table-gains}
-use Rattle.theory.specs.Charts.{Steps, Any, Branch, Loop}
+use Rattle.bits.proofs.Members.{⊎-map, none}
+use Rattle.bits.proofs.Gains.{put-long, put-here, put-other, gains-none, gains-as, gains-then, gained, table-as, table-gains}
+use Rattle.theory.specs.Charts.{Steps, Any, Branch}
 use Rattle.chart.specs.Bodies.{verticesOf, countOf, fromOf, toOf, WellFormed}
 use Rattle.chart.specs.Leaving.{Begins}
 use Rattle.chart.specs.Steps.{StepsOf}
+use Rattle.chart.proofs.Order.{begin-high}
 use Rattle.chart.proofs.Relations.{steps-formed}
+use Rattle.witness.specs.declared.tables.Taken.{Taken}
 use Rattle.witness.specs.declared.tables.Outgoing.{Outgoing}
-use Rattle.witness.specs.Given.{Entry, Enters, EntersFrom, LowestLevels, NoSteps, FirstOf, OutgoingOf, OutgoingWith, Collected}
-use Rattle.witness.proofs.Firsts.{first-as}
-use Rattle.witness.proofs.Seen.{Seen, seen-none, before, new, cases, seen-step, step-seen}
+use Rattle.witness.specs.Given.{Entry, Enters, EntersFrom, NoSteps, FirstOf, OutgoingOf, Collected}
+use Rattle.witness.specs.Given.{IsBranch, IsEntry, Targets, Took, LevelsOf}
+use Rattle.witness.proofs.Seen.{Seen, seen-none, seen-first, seen-either, leaves-v, seen-step, step-seen}
 
 -- THE TRANSITIONS OF ONE VERTEX
--- the same transitions of u, said in another way
-outgoing-as : {S T : Steps} {u : ℕ} {r : Outgoing} → ((l w : ℕ) → S u l w ↔ T u l w) → OutgoingOf S u r → OutgoingOf T u r
-outgoing-as f R = record {
-  of-branches = record { exactly = λ w h. let e = R .of-branches .exactly w h in (λ g. f 0 w .0 (e .0 g), λ s. e .1 (f 0 w .1 s)) };
-  of-entries = record {
-    exactly = λ w h. let e = R .of-entries .exactly w h in
-        (λ g. let (l, a, s) = e .0 g in (l, a, f l w .0 s), λ (l, a, s). e .1 (l, a, f l w .1 s));
-  };
-  of-low = first-as (λ l h. (λ (a, w, s). (a, w, f l w .0 s), λ (a, w, s). (a, w, f l w .1 s))) (R .of-low);
+-- none
+pub outgoing-none : {b labels : List ℕ} {lo u : ℕ} {s t : Set} → s ≡ emptySet → t ≡ emptySet
+    → OutgoingOf (Seen b labels lo lo) u (record { branches = s; entries = t })
+outgoing-none e f = record {
+  of-branches = record { exactly = λ w h. (λ g. absurd (none w (rw e at g)), λ o. absurd (seen-none o)) };
+  of-entries = record { exactly = λ w h. (λ g. absurd (none w (rw f at g)), λ (l, a, o). absurd (seen-none o)) };
 }
 
-pub outgoing-begin : {b labels : List ℕ} {lo u : ℕ} {r : Outgoing} → OutgoingOf NoSteps u r → OutgoingOf (Seen b labels lo lo) u r
-outgoing-begin = outgoing-as (λ l w. (λ e. absurd e, seen-none))
+-- a run of transitions of u comes to those from lo on
+module _ {b labels : List ℕ} {lo i e u : ℕ} (low : lo ≤ i) (within : e ≤ countOf b)
+    (leaves : (j : ℕ) → i ≤ j → j < e → u ≡ fromOf b j) where
+  module _ {P : ℕ → Type 0} {q : Set} {r : Taken} (T : Took b P i e q r) where
+    sooner : {x l w : ℕ} → Seen b labels lo i x l w → Seen b labels lo (r .at) x l w
+    sooner = seen-first low (T .from)
 
--- transition i comes to it
-module _ {b labels : List ℕ} {lo : ℕ} (i : ℕ) (low : lo ≤ i) (high : i < countOf b) {u l t : ℕ}
-    (ef : u ≡ fromOf b i) (el : l ≡ getD labels i 0) (et : t ≡ toOf b i)
-    {s r : Outgoing} (R : OutgoingOf (Seen b labels lo i) u s) (W : OutgoingWith s l t r) where
-  abbrev After : Steps
-  After = Seen b labels lo (i + 1)
+    either : {x l w : ℕ} → Seen b labels lo (r .at) x l w → Seen b labels lo i x l w ⊎ Seen b labels i (r .at) x l w
+    either = seen-either low (T .from)
 
-  low-branch : l ≡ 0 → First (Loop After u) 0 256 (r .low)
-  low-branch z =
-      let L = R .of-low in
-      let e = W .as-before z in
-      record {
-        from = omega arith;
-        within = omega (arith, e, L .within);
-        holds = λ h. let (a, w, o) = L .holds (omega (arith, e, h)) in subst (Loop After u) (sym e) (a, w, before i low high ef el et o);
-        before = λ k c h (a, w, o).
-            ⊎-elim (λ p. L .before k c (omega (arith, e, h)) (a, w, p)) (λ (p, q, x). omega (arith, z, q, a)) (cases i low high ef el et o);
-      }
+    of-run : {x l w : ℕ} (j : ℕ) → i ≤ j → j < r .at → x ≡ u → getD labels j 0 ≡ l → toOf b j ≡ w → Seen b labels lo (r .at) x l w
+    of-run j p h x el et = record {
+      at = j;
+      within = omega (arith, within, h, T .to);
+      leaves = sym (leaves j p (omega (arith, h, T .to))) ∙ sym x;
+      enters = et;
+      holds = record { from = omega (arith, low, p); below = h; is = el };
+    }
 
-  low-entry : l ≢ 0 → First (Loop After u) 0 256 (r .low)
-  low-entry z =
-      let L = R .of-low in
-      let p : 0 < l = omega arith in
-      let e = W .lowered p in
-      record {
-        from = omega arith;
-        within = omega (arith, e, L .within);
-        holds = λ h.
-            by-cases (decLt l (s .low))
-            (λ g. subst (Loop After u) (omega (arith, e, g)) (p, t, new i low high ef el et refl refl refl))
-            (λ g. let (a, w, o) = L .holds (omega (arith, e, g, h)) in subst (Loop After u) (omega (arith, e, g)) (a, w, before i low high ef el et o));
-        before = λ k c h (a, w, o).
-            ⊎-elim (λ q. L .before k c (omega (arith, e, h)) (a, w, q)) (λ (q, x, y). omega (arith, e, h, x)) (cases i low high ef el et o);
-      }
+    target : {x l w : ℕ} → Seen b labels i (r .at) x l w → Targets b i (r .at) w
+    target o = (o .at, o .holds .from, o .holds .below, o .enters)
 
-  pub outgoing-more : OutgoingOf After u r
-  outgoing-more = record {
-    of-branches = record {
-      exactly = λ w h. let e = R .of-branches .exactly w h in (
-        λ g. ⊎-elim (λ o. before i low high ef el et (e .0 o)) (λ (z, y). new i low high ef el et refl (sym z) y) (W .branches w .0 g),
-        λ o. W .branches w .1 (⊎-map (e .1) (λ (p, q, y). (sym q, y)) (cases i low high ef el et o)),
-      );
-    };
-    of-entries = record {
-      exactly = λ w h. let e = R .of-entries .exactly w h in (
-        λ g. ⊎-elim (λ o. let (k, a, p) = e .0 o in (k, a, before i low high ef el et p)) (λ (z, y). (l, z, new i low high ef el et refl refl y)) (W .entries w .0 g),
-        λ (k, a, o). W .entries w .1 (⊎-map (λ p. e .1 (k, a, p)) (λ (p, q, y). (omega arith, y)) (cases i low high ef el et o)),
-      );
-    };
-    of-low = by-cases (ℕ-discrete l 0) low-branch low-entry;
-  }
+    its : {x l w : ℕ} (o : Seen b labels i (r .at) x l w) → P (o .at)
+    its o = T .each (o .at) (o .holds .from) (o .holds .below)
 
+  -- branches: they come to the branches of u, and nothing to its entries
+  module _ {s : Set} {r : Taken} (T : Took b (IsBranch labels) i e s r) where
+    no-entry : {x l w : ℕ} → 0 < l → ¬ Seen b labels i (r .at) x l w
+    no-entry a o = omega (arith, its T o, o .holds .is, a)
+
+    branches-more : {t : Set} → OutgoingOf (Seen b labels lo i) u (record { branches = s; entries = t })
+        → OutgoingOf (Seen b labels lo (r .at)) u (record { branches = r .set; entries = t })
+    branches-more O = record {
+      of-branches = record {
+        exactly = λ w h. let M = O .of-branches .exactly w h in let W = T .targets .exactly w in (
+          λ g. ⊎-elim (λ p. sooner T (M .0 p)) (λ (j, p, k, z). of-run T j p k refl (T .each j p k) z) (W .0 g),
+          λ o. W .1 (⊎-map (M .1) (target T) (either T o)),
+        );
+      };
+      of-entries = record {
+        exactly = λ w h. let M = O .of-entries .exactly w h in (
+          λ g. let (l, a, o) = M .0 g in (l, a, sooner T o),
+          λ (l, a, o). M .1 (⊎-elim (λ p. (l, a, p)) (λ p. absurd (no-entry a p)) (either T o)),
+        );
+      };
+    }
+
+    branches-enter : {a c : List ℕ} → Gains (Enters (Seen b labels lo i)) a c → Gains (Enters (Seen b labels lo (r .at))) a c
+    branches-enter = gains-as (λ l x h. (
+      λ (p, w, o). (p, w, sooner T o),
+      λ (p, w, o). ⊎-elim (λ k. (p, w, k)) (λ k. absurd (no-entry p k)) (either T o),
+    ))
+
+  -- entries: they come to the entries of u, and u comes into the sets of their levels
+  module _ {t : Set} {r : Taken} (T : Took b (IsEntry labels) i e t r) where
+    entries-more : {s : Set} → OutgoingOf (Seen b labels lo i) u (record { branches = s; entries = t })
+        → OutgoingOf (Seen b labels lo (r .at)) u (record { branches = s; entries = r .set })
+    entries-more O = record {
+      of-branches = record {
+        exactly = λ w h. let M = O .of-branches .exactly w h in (
+          λ g. sooner T (M .0 g),
+          λ o. M .1 (⊎-elim (λ p. p) (λ p. absurd (omega (arith, its T p, p .holds .is))) (either T o)),
+        );
+      };
+      of-entries = record {
+        exactly = λ w h. let M = O .of-entries .exactly w h in let W = T .targets .exactly w in (
+          λ g. ⊎-elim
+              (λ p. let (l, a, o) = M .0 p in (l, a, sooner T o))
+              (λ (j, p, k, z). (getD labels j 0, T .each j p k, of-run T j p k refl refl z))
+              (W .0 g),
+          λ (l, a, o). W .1 (⊎-map (λ p. M .1 (l, a, p)) (target T) (either T o)),
+        );
+      };
+    }
+
+    entries-enter : {a c d : List ℕ} → Gains (Enters (Seen b labels lo i)) a c → Gains (LevelsOf labels i (r .at) u) c d
+        → Gains (Enters (Seen b labels lo (r .at))) a d
+    entries-enter G H = gains-then G H (λ l x h. (
+      ⊎-elim
+          (λ (p, w, o). (p, w, sooner T o))
+          (λ (z, (j, p, k, el)). (omega (arith, T .each j p k, el), toOf b j, of-run T j p k z el refl)),
+      λ (p, w, o). ⊎-map (λ k. (p, w, k)) level (either T o),
+    ))
+      where
+        level : {x l w : ℕ} → Seen b labels i (r .at) x l w → LevelsOf labels i (r .at) u l x
+        level o = (
+          sym (o .leaves) ∙ sym (leaves (o .at) (o .holds .from) (omega (arith, o .holds .below, T .to))),
+          (o .at, o .holds .from, o .holds .below, o .holds .is),
+        )
+
+-- one run of branches and one of entries more, up to where those of u end
+module _ (labels : List ℕ) {b begins : List ℕ} (R : Begins b begins) {u : ℕ} (h : u < 128)
+    {i : ℕ} {s t : Set} {q r : Taken} (low : getD begins u 0 ≤ i)
+    (T : Took b (IsBranch labels) i (getD begins (u + 1) 0) s q) (U : Took b (IsEntry labels) (q .at) (getD begins (u + 1) 0) t r) where
+  leaves : (j : ℕ) → i ≤ j → j < getD begins (u + 1) 0 → u ≡ fromOf b j
+  leaves j m = leaves-v R u h j (omega (arith, low, m))
+
+  further : getD begins u 0 ≤ q .at
+  further = omega (arith, low, T .from)
+
+  leave : (j : ℕ) → q .at ≤ j → j < getD begins (u + 1) 0 → u ≡ fromOf b j
+  leave j m = leaves j (omega (arith, T .from, m))
+
+  pub outgoing-more : OutgoingOf (Seen b labels (getD begins u 0) i) u (record { branches = s; entries = t })
+      → OutgoingOf (Seen b labels (getD begins u 0) (r .at)) u (record { branches = q .set; entries = r .set })
+  outgoing-more O = entries-more further (begin-high R u h) leave U (branches-more low (begin-high R u h) leaves T O)
+
+  pub enters-more : {a c d : List ℕ} → Gains (Enters (Seen b labels (getD begins u 0) i)) a c
+      → Gains (LevelsOf labels (q .at) (r .at) u) c d → Gains (Enters (Seen b labels (getD begins u 0) (r .at))) a d
+  enters-more G = entries-enter further (begin-high R u h) leave U (branches-enter low (begin-high R u h) leaves T G)
+
+-- all
 pub outgoing-all : {b begins : List ℕ} → Begins b begins → {u : ℕ} → u < 128 → {labels : List ℕ} {n : ℕ} {r : Outgoing} → n ≡ getD begins (u + 1) 0
     → OutgoingOf (Seen b labels (getD begins u 0) n) u r → OutgoingOf (StepsOf b labels) u r
-outgoing-all R {u} low e = outgoing-as (λ l w. (seen-step R u low e, step-seen R u low e))
+outgoing-all R {u} low e O = record {
+  of-branches = record {
+    exactly = λ w h. let M = O .of-branches .exactly w h in
+        (λ g. seen-step R u low e (M .0 g), λ o. M .1 (step-seen R u low e o));
+  };
+  of-entries = record {
+    exactly = λ w h. let M = O .of-entries .exactly w h in
+        (λ g. let (l, a, o) = M .0 g in (l, a, seen-step R u low e o), λ (l, a, o). M .1 (l, a, step-seen R u low e o));
+  };
+}
 
 -- THE TABLES
 -- the same transitions, said in another way
-collected-as : {S T : Steps} {next branches entries low entered : List ℕ} → ((u l w : ℕ) → S u l w ↔ T u l w)
-    → Collected S next branches entries low entered → Collected T next branches entries low entered
+collected-as : {S T : Steps} {next branches entries entered : List ℕ} → ((u l w : ℕ) → S u l w ↔ T u l w)
+    → Collected S next branches entries entered → Collected T next branches entries entered
 collected-as f C = record {
   of-next = table-as (λ x y h g. (λ (l, s). (l, f x l y .0 s), λ (l, s). (l, f x l y .1 s))) (C .of-next);
   of-branches = table-as (λ x y h g. f x 0 y) (C .of-branches);
   of-entries = table-as (λ x y h g. (λ (l, a, s). (l, a, f x l y .0 s), λ (l, a, s). (l, a, f x l y .1 s))) (C .of-entries);
-  of-low = record { long = C .of-low .long; each = λ v h. first-as (λ l g. (λ (a, w, s). (a, w, f v l w .0 s), λ (a, w, s). (a, w, f v l w .1 s))) (C .of-low .each v h) };
   of-entered = table-as (λ l x h g. (λ (a, w, s). (a, w, f x l w .0 s), λ (a, w, s). (a, w, f x l w .1 s))) (C .of-entered);
 }
 
 -- tables with nothing in them
-pub collected-none : Collected NoSteps (replicate 256 0) (replicate 256 0) (replicate 256 0) (replicate 128 256) (replicate 512 0)
+pub collected-none : Collected NoSteps (replicate 256 0) (replicate 256 0) (replicate 256 0) (replicate 512 0)
 collected-none = record {
   of-next = gained 128 256 refl (gains-none (λ x y (l, e). e));
   of-branches = gained 128 256 refl (gains-none (λ x y e. e));
   of-entries = gained 128 256 refl (gains-none (λ x y (l, a, e). e));
-  of-low = record {
-    long = length-replicate {A = ℕ} 128 256;
-    each = λ v h. let e = filled 128 256 v h in record { from = omega arith; within = omega (arith, e); holds = λ g. absurd (omega (arith, e, g)); before = λ k c g (a, w, z). z };
-  };
   of-entered = gained 256 512 refl (gains-none (λ x y (a, w, e). e));
 }
 
-pub collected-begin : {S : Steps} {next branches entries low entered : List ℕ} → Collected NoSteps next branches entries low entered → Collected (FirstOf 0 S) next branches entries low entered
-collected-begin = collected-as (λ u l w. (λ e. absurd e, λ (h, s). omega arith))
+-- the end has no transitions
+pub collected-begin : {b labels next branches entries entered : List ℕ} → WellFormed b → Collected NoSteps next branches entries entered
+    → Collected (FirstOf 1 (StepsOf b labels)) next branches entries entered
+collected-begin {b} {labels} W =
+    collected-as (λ u l w. (λ e. absurd e, λ (h, s). omega (arith, h, steps-formed b labels W .from-vertex u l w s .0)))
 
-pub collected-all : {b labels next branches entries low entered : List ℕ} → WellFormed b → {n : ℕ} → n ≡ verticesOf b → Collected (FirstOf n (StepsOf b labels)) next branches entries low entered → Collected (StepsOf b labels) next branches entries low entered
+pub collected-all : {b labels next branches entries entered : List ℕ} → WellFormed b → {n : ℕ} → n ≡ verticesOf b
+    → Collected (FirstOf n (StepsOf b labels)) next branches entries entered
+    → Collected (StepsOf b labels) next branches entries entered
 collected-all {b} {labels} W e = collected-as (λ u l w. (λ (h, s). s, λ s. (omega (arith, e, steps-formed b labels W .from-vertex u l w s .1), s)))
 
 -- a set of a table has come to be another
@@ -138,8 +201,8 @@ put-table {P} {Q} {a} {r} {u} {s} h e M g T = subst (Table 128 Q) (sym e) (recor
 
 -- the transitions of u come to the tables of the vertices before it
 module _ {S : Steps} {u : ℕ} (h : u < 128) {out : Outgoing} (R : OutgoingOf S u out) where
-  sooner : {x l w : ℕ} → x ≢ u → FirstOf u S x l w ↔ FirstOf (u + 1) S x l w
-  sooner n = (λ (g, s). (omega arith, s), λ (g, s). (omega arith, s))
+  other : {x l w : ℕ} → x ≢ u → FirstOf u S x l w ↔ FirstOf (u + 1) S x l w
+  other n = (λ (g, s). (omega arith, s), λ (g, s). (omega arith, s))
 
   here : {l w : ℕ} → S u l w ↔ FirstOf (u + 1) S u l w
   here = (λ s. (omega arith, s), λ (g, s). s)
@@ -167,33 +230,22 @@ module _ {S : Steps} {u : ℕ} (h : u < 128) {out : Outgoing} (R : OutgoingOf S 
         (λ k. let (m, a, s) = e .0 k in (m, a, here .0 s), λ (m, a, s). e .1 (m, a, here .1 s));
   }
 
-  low-more : {low : List ℕ} → LowestLevels (FirstOf u S) low → LowestLevels (FirstOf (u + 1) S) (set low u (out .low))
-  low-more {low} L = record { long = length-set low u (out .low) ∙ L .long; each = λ v g. by-cases (ℕ-discrete v u) (same v) (other v g) }
-    where
-      same : (v : ℕ) → v ≡ u → First (Loop (FirstOf (u + 1) S) v) 0 256 (getD (set low u (out .low)) v 0)
-      same v e = subst (λ (x : ℕ). First (Loop (FirstOf (u + 1) S) x) 0 256 (getD (set low u (out .low)) x 0)) (sym e)
-          (subst (First (Loop (FirstOf (u + 1) S) u) 0 256) (sym (getD-set-same low u (out .low) 0 (omega (arith, L .long))))
-          (first-as (λ l g. (λ (a, w, s). (a, w, here .0 s), λ (a, w, s). (a, w, here .1 s))) (R .of-low)))
-
-      other : (v : ℕ) → v < 128 → v ≢ u → First (Loop (FirstOf (u + 1) S) v) 0 256 (getD (set low u (out .low)) v 0)
-      other v g n = subst (First (Loop (FirstOf (u + 1) S) v) 0 256) (sym (getD-set-other low u v (out .low) 0 n))
-          (first-as (λ l k. (λ (a, w, s). (a, w, sooner n .0 s), λ (a, w, s). (a, w, sooner n .1 s))) (L .each v g))
-
   entered-more : {a r : List ℕ} → Table 256 (Enters (FirstOf u S)) a → Gains (EntersFrom u S) a r → Table 256 (Enters (FirstOf (u + 1) S)) r
   entered-more T G = table-as (λ l x i g. (
     ⊎-elim (λ (a, w, (k, s)). (a, w, (omega arith, s))) (λ (e, (a, w, s)). (a, w, (omega arith, s))),
     λ (a, w, (k, s)). by-cases (ℕ-discrete x u) (λ e. inr (e, (a, w, s))) (λ e. inl (a, w, (omega arith, s))),
   )) (table-gains T G)
 
-  pub collected-more : {next branches entries low entered next₁ branches₁ entries₁ entered₁ : List ℕ} {both : Set}
-      → Collected (FirstOf u S) next branches entries low entered → Gains (EntersFrom u S) entered entered₁
+  pub collected-more : {next branches entries entered next₁ branches₁ entries₁ entered₁ : List ℕ} {both : Set}
+      → Collected (FirstOf u S) next branches entries entered → Gains (EntersFrom u S) entered entered₁
       → Union (out .branches) (out .entries) both → next₁ ≡ putRow next u both
       → branches₁ ≡ putRow branches u (out .branches) → entries₁ ≡ putRow entries u (out .entries)
-      → Collected (FirstOf (u + 1) S) next₁ branches₁ entries₁ (set low u (out .low)) entered₁
+      → Collected (FirstOf (u + 1) S) next₁ branches₁ entries₁ entered₁
   collected-more C G U N B E = record {
-    of-next = put-table h N (all-members U) (λ x y n. (λ (l, s). (l, sooner n .0 s), λ (l, s). (l, sooner n .1 s))) (C .of-next);
-    of-branches = put-table h B branch-members (λ x y n. sooner n) (C .of-branches);
-    of-entries = put-table h E entry-members (λ x y n. (λ (m, a, s). (m, a, sooner n .0 s), λ (m, a, s). (m, a, sooner n .1 s))) (C .of-entries);
-    of-low = low-more (C .of-low);
+    of-next = put-table h N (all-members U) (λ x y n. (λ (l, s). (l, other n .0 s), λ (l, s). (l, other n .1 s))) (C .of-next);
+    of-branches = put-table h B branch-members (λ x y n. other n) (C .of-branches);
+    of-entries = put-table h E entry-members
+        (λ x y n. (λ (m, a, s). (m, a, other n .0 s), λ (m, a, s). (m, a, other n .1 s)))
+        (C .of-entries);
     of-entered = entered-more (C .of-entered) G;
   }

@@ -14,8 +14,7 @@ use Rattle.theory.specs.Charts.{Loop}
 use Rattle.chart.specs.Bodies.{WellFormed}
 use Rattle.chart.specs.Steps.{StepsOf}
 use Rattle.bits.specs.Tables.{rowOf, Table, Gains}
-use Rattle.witness.specs.Given.{Tables, Enters, EntersHigh, NoneAbove, InLater, IsLevel, EntryLevels, EntryTargets}
-use Rattle.witness.specs.Loops.{HasBodies, LoopGiven}
+use Rattle.witness.specs.Given.{Enters, EntersHigh, NoneAbove, InLater, IsLevel, EntryLevels, EntryTargets}
 use Rattle.witness.proofs.Labellings.{loop-below}
 use Rattle.witness.proofs.Firsts.{first-as}
 use Rattle.bits.proofs.Gains.{table-as, table-gains}
@@ -42,22 +41,9 @@ module _ {b labels : List ℕ} {v : ℕ} where
       let e : 128 * (l / 128) + l % 128 ≡ l = omega arith in
       subst (λ (k : ℕ). IsLevel levels l ↔ Loop (StepsOf b labels) v k) e (T .exactly (l / 128) (l % 128) (omega arith) (omega arith)))
 
-  loop-targets : {targets : List ℕ} {level : ℕ} → Table 256 (EntryTargets (StepsOf b labels) v) targets → 0 < level → level < 256
-      → Members (StepsOf b labels v level) (rowOf targets level)
-  loop-targets T a h = record { exactly = λ w l. (λ g. T .exactly _ w h l .0 g .1, λ s. T .exactly _ w h l .1 (a, s)) }
-
-  pub loop-given : {branches after entries low high targets : List ℕ} {level : ℕ} {set all : Set} → WellFormed b
-      → Tables b labels branches after entries low high → HasBodies (StepsOf b labels) v all → Table 256 (EntryTargets (StepsOf b labels) v) targets
-      → 0 < level → level < 256 → set ≡ rowOf targets level → LoopGiven b labels branches after high v level set all
-  loop-given {entries = entries} {low} W T H R a h e = record {
-    formed = W;
-    entries = entries;
-    low = low;
-    tables = T;
-    above = a;
-    members = rw e (loop-targets R a h);
-    bodies = H;
-  }
+  pub loop-targets : {targets : List ℕ} {level : ℕ} {set : Set} → Table 256 (EntryTargets (StepsOf b labels) v) targets → 0 < level
+      → level < 256 → set ≡ rowOf targets level → Members (StepsOf b labels v level) set
+  loop-targets T a h e = rw e (record { exactly = λ w l. (λ g. T .exactly _ w h l .0 g .1, λ s. T .exactly _ w h l .1 (a, s)) })
 
 -- no vertex has an entry of a level above the highest label
 pub none-higher : {b labels entered : List ℕ} {top : ℕ} → Table 256 (Enters (StepsOf b labels)) entered

@@ -6,8 +6,12 @@ pub mod Seen
 pub mod Sifting
 pub mod Firsts
 pub mod Given
+pub mod Runs
 pub mod Collecting
+pub mod Lows
 pub mod Sizes
 pub mod Reaching
+pub mod Nested
 pub mod Loops
+pub mod Entries
 pub mod Answers

@@ -1,26 +1,24 @@
--- What the code's searches find: what the start reaches, what follows a branch, the body of a loop.
+-- What the code's searches find: what the start reaches, what follows a branch.
 use mathlib.Core.Path.{_≡_, refl, subst}
-use mathlib.Core.Logic.{_≢_, _⊎_, inr, ⊎-elim, _↔_}
+use mathlib.Core.Logic.{_≢_, _⊎_, inl, inr, ⊎-elim, _↔_, by-cases}
 use mathlib.Core.List.{List}
 use Prim.Native.Nat.{ℕ, _<_}
+use native.Mathlib.Decide.{ℕ-discrete}
 use native.Mathlib.Omega.{arith}
 use Rattle.bits.specs.First.{First}
 use Rattle.bits.specs.declared.sets.Set.{Set}
-use Rattle.bits.specs.Sets.{Has, emptySet, Members}
-use Rattle.bits.specs.Tables.{rowOf, Table}
-use Rattle.bits.proofs.Members.{none}
-use Rattle.theory.specs.Paths.{Edges, Star, Plus, Avoid}
+use Rattle.bits.specs.Sets.{Has, emptySet, Members, Difference}
+use Rattle.bits.specs.Tables.{Table}
+use Rattle.bits.proofs.Members.{none, has?}
+use Rattle.theory.specs.Paths.{Edges, Star, Avoid}
 use Rattle.theory.specs.Charts.{Any, Branch}
-use Rattle.theory.specs.LoopCharts.{InLoop}
 use Rattle.theory.specs.Checks.{Unreached, OnBranchCycle}
 use Rattle.theory.proofs.Paths.{star-map, plus-map}
-use Rattle.theory.proofs.Rounds.{body-iff}
 use Rattle.chart.specs.Bodies.{verticesOf, startOf, WellFormed}
 use Rattle.chart.specs.Sets.{Leads, FromSet, OnCycle}
 use Rattle.chart.specs.Steps.{StepsOf}
 use Rattle.chart.proofs.Relations.{steps-formed}
-use Rattle.witness.specs.Given.{Tables, FirstUnreached}
-use Rattle.witness.specs.Loops.{HasBodies}
+use Rattle.witness.specs.Given.{FirstUnreached}
 use Rattle.witness.proofs.Firsts.{first-here, first-none, first-as}
 
 -- the set of one vertex
@@ -81,39 +79,33 @@ module _ {b labels : List ℕ} (W : WellFormed b) where
     pub cycle-first : {n r : ℕ} → First (OnCycle branches) 0 n r → First (OnBranchCycle (StepsOf b labels)) 0 n r
     cycle-first = first-as (λ w h. (plus-map leads-branch, plus-map branch-leads))
 
-    -- 33 to 35: the body of the loop (v, l)
-    pub members-body : {set r : Set} {v l : ℕ} → Members (StepsOf b labels v l) set
-        → Members (FromSet (Avoid v (Leads branches)) set) r → Members (Plus (InLoop (StepsOf b labels) v l) v) r
-    members-body M R =
-        closed-from
-        T
-        (λ x w s. step-low s)
-        (λ x w. (λ e. e, λ e. e))
-        M
-        (λ w s. step-low s .1)
-        R
-        (λ w. (body-iff w .1, body-iff w .0))
-
--- what all entries of v reach has the body of each loop of v
-pub has-bodies : {b labels branches after entries low high : List ℕ} {all : Set} {v : ℕ} → WellFormed b
-    → Tables b labels branches after entries low high → v < 128
-    → Members (FromSet (Avoid v (Leads branches)) (rowOf entries v)) all → HasBodies (StepsOf b labels) v all
-has-bodies {b} {labels} {branches} {v = v} W T h A l w some i p =
-    let (x, s, q) = body-iff w .0 p in
-    let j = step-low W s .1 in
-    A .exactly w i .1 (x, T .of-entries .exactly v x h j .1 (l, some, s), star-map onward q)
-  where
-    onward : (x y : ℕ) → Avoid v (Branch (StepsOf b labels)) x y → Avoid v (Leads branches) x y
-    onward x y (n, s) = (n, branch-leads W (T .of-branches) x y s)
-
 -- every vertex before w but the end is reached
 module _ {b labels : List ℕ} {r : Set} (W : WellFormed b) (M : Members (Star (Any (StepsOf b labels)) (startOf b)) r)
     {w : ℕ} (all : (k : ℕ) → 0 < k → k < w → Has r k) where
   none-unreached : (k : ℕ) → k < w → ¬ Unreached (verticesOf b) (StepsOf b labels) (startOf b) k
   none-unreached k h (a, l, p) = p (M .exactly k (omega (arith, W .header .vertices-high)) .0 (all k a h))
 
-  pub unreached-here : 0 < w → w < verticesOf b → ¬ Has r w → FirstUnreached b labels w
+  unreached-here : 0 < w → w < verticesOf b → ¬ Has r w → FirstUnreached b labels w
   unreached-here a l h = first-here none-unreached l (a, l, λ p. h (M .exactly w (omega (arith, W .header .vertices-high)) .1 p))
 
-  pub unreached-none : w ≡ verticesOf b → FirstUnreached b labels w
+  unreached-none : w ≡ verticesOf b → FirstUnreached b labels w
   unreached-none e = first-none none-unreached e
+
+-- w is the lowest of the vertices that are not reached, the end aside, or 128
+module _ {b labels : List ℕ} {r : Set} (W : WellFormed b) (M : Members (Star (Any (StepsOf b labels)) (startOf b)) r)
+    {vertices all missing : Set} {w : ℕ} (B : Members (λ (x : ℕ). x < verticesOf b) vertices)
+    (A : (x : ℕ) → Has all x ↔ (Has r x ⊎ (x ≡ 0))) (D : Difference vertices all missing) (F : First (Has missing) 0 128 w) where
+  below : (k : ℕ) → 0 < k → k < w → k < verticesOf b → Has r k
+  below k a h l = by-cases (has? r k) (λ g. g) (λ n. absurd (F .before k (omega arith) h
+      (D k .1 (B .exactly k (omega (arith, W .header .vertices-high)) .1 l, λ g. ⊎-elim n (λ z. omega (arith, a, z)) (A k .0 g)))))
+
+  pub lowest-unreached : w ≢ 128 → FirstUnreached b labels w
+  lowest-unreached n =
+      let m : w < 128 = omega (arith, n, F .within) in
+      let (p, q) = D w .0 (F .holds m) in
+      let l : w < verticesOf b = B .exactly w m .0 p in
+      let a : 0 < w = by-cases (ℕ-discrete w 0) (λ z. absurd (q (A w .1 (inr z)))) (λ z. omega arith) in
+      unreached-here W M (λ k i h. below k i h (omega arith)) a l (λ g. q (A w .1 (inl g)))
+
+  pub none-missing : {n : ℕ} → w ≡ 128 → n ≡ verticesOf b → FirstUnreached b labels n
+  none-missing e z = unreached-none W M (λ k i h. below k i (omega (arith, e, z, W .header .vertices-high)) (omega arith)) z

@@ -3,7 +3,7 @@ use mathlib.Core.Path.{_≡_, refl, sym, _∙_, subst}
 use mathlib.Core.Logic.{_⊎_, inl, inr, ⊎-elim, by-cases}
 use mathlib.Core.List.{List}
 use Prim.Native.Nat.{ℕ, _+_, _/_, _%_, _≤_, _<_}
-use native.Mathlib.Decide.{ℕ-discrete}
+use native.Mathlib.Decide.{decLt}
 use native.Mathlib.Omega.{arith}
 use lib.ListN.{getD}
 use Rattle.bits.specs.Tables.{Gains, When}
@@ -28,13 +28,32 @@ Seen b labels lo hi u l w = Via b (Within labels lo hi l) u w
 pub seen-none : {b labels : List ℕ} {lo u l w : ℕ} → ¬ Seen b labels lo lo u l w
 seen-none s = omega (arith, s .holds .from, s .holds .below)
 
+-- the same transition, within other bounds
+again : {b labels : List ℕ} {lo hi from to u l w : ℕ} (s : Seen b labels lo hi u l w) → from ≤ s .at → s .at < to
+    → Seen b labels from to u l w
+again s p q = record {
+  at = s .at;
+  within = s .within;
+  leaves = s .leaves;
+  enters = s .enters;
+  holds = record { from = p; below = q; is = s .holds .is };
+}
+
+-- those up to i, and then those up to k
+module _ {b labels : List ℕ} {lo i k : ℕ} (low : lo ≤ i) (high : i ≤ k) {u l w : ℕ} where
+  pub seen-first : Seen b labels lo i u l w → Seen b labels lo k u l w
+  seen-first s = again s (s .holds .from) (omega (arith, s .holds .below))
+
+  pub seen-either : Seen b labels lo k u l w → Seen b labels lo i u l w ⊎ Seen b labels i k u l w
+  seen-either s = by-cases (decLt (s .at) i)
+      (λ h. inl (again s (s .holds .from) h))
+      (λ h. inr (again s (omega arith) (s .holds .below)))
+
 -- one transition more, from f to t with the label l
 module _ {b labels : List ℕ} {lo : ℕ} (i : ℕ) (low : lo ≤ i) (high : i < countOf b) {f l t : ℕ}
     (ef : f ≡ fromOf b i) (el : l ≡ getD labels i 0) (et : t ≡ toOf b i) where
   pub before : {u k w : ℕ} → Seen b labels lo i u k w → Seen b labels lo (i + 1) u k w
-  before s =
-      let h = s .holds in
-      record { at = s .at; within = s .within; leaves = s .leaves; enters = s .enters; holds = record { from = h .from; below = omega (arith, h .below); is = h .is } }
+  before = seen-first low (omega arith)
 
   pub new : {u k w : ℕ} → u ≡ f → k ≡ l → w ≡ t → Seen b labels lo (i + 1) u k w
   new p q r = record {
@@ -46,21 +65,15 @@ module _ {b labels : List ℕ} {lo : ℕ} (i : ℕ) (low : lo ≤ i) (high : i <
   }
 
   pub cases : {u k w : ℕ} → Seen b labels lo (i + 1) u k w → Seen b labels lo i u k w ⊎ ((u ≡ f) × (k ≡ l) × (w ≡ t))
-  cases {u} {k} {w} s =
-      by-cases (ℕ-discrete (s .at) i)
-      (λ z. inr (
-        sym (subst (λ (j : ℕ). fromOf b j ≡ u) z (s .leaves)) ∙ sym ef,
-        sym (subst (λ (j : ℕ). getD labels j 0 ≡ k) z (s .holds .is)) ∙ sym el,
-        sym (subst (λ (j : ℕ). toOf b j ≡ w) z (s .enters)) ∙ sym et,
-      ))
-      (λ z. let h = s .holds in
-      inl (record { at = s .at; within = s .within; leaves = s .leaves; enters = s .enters; holds = record { from = h .from; below = omega (arith, h .below); is = h .is } }))
-
-  pub enters-more : {a r s : List ℕ} → Gains (Enters (Seen b labels lo i)) a r → Gains (When (0 < l) l f) r s → Gains (Enters (Seen b labels lo (i + 1))) a s
-  enters-more G H = gains-then G H (λ x y g. (
-    ⊎-elim (λ (h, w, s). (h, w, before s)) (λ (z, p, q). (omega arith, t, new q p refl)),
-    λ (h, w, s). ⊎-map (λ o. (h, w, o)) (λ (p, q, r). (omega arith, q, p)) (cases s),
-  ))
+  cases {u} {k} {w} s = ⊎-map (λ o. o) here (seen-either low (omega arith) s)
+    where
+      here : Seen b labels i (i + 1) u k w → (u ≡ f) × (k ≡ l) × (w ≡ t)
+      here o =
+          let z : o .at ≡ i = omega (arith, o .holds .from, o .holds .below) in (
+            sym (subst (λ (j : ℕ). fromOf b j ≡ u) z (o .leaves)) ∙ sym ef,
+            sym (subst (λ (j : ℕ). getD labels j 0 ≡ k) z (o .holds .is)) ∙ sym el,
+            sym (subst (λ (j : ℕ). toOf b j ≡ w) z (o .enters)) ∙ sym et,
+          )
 
   pub levels-more : {a r s : List ℕ} → Gains (EntryLevels (Seen b labels lo i) f) a r → Gains (When (0 < l) (l / 128) (l % 128)) r s → Gains (EntryLevels (Seen b labels lo (i + 1)) f) a s
   levels-more G H = gains-then G H (λ x y g. (

@@ -6,9 +6,9 @@ use native.Mathlib.Decide.{decLt}
 use native.Mathlib.Omega.{arith}
 use Rattle.bits.specs.declared.sets.Set.{Set}
 use Rattle.bits.specs.Words.{On, With, Without}
-use Rattle.bits.specs.Sets.{Has, Empty, Members, Difference}
+use Rattle.bits.specs.Sets.{Has, Members}
 use Rattle.bits.proofs.Gains.{taken-less, taken-or}
-use Rattle.bits.proofs.Members.{zero-off, low-has, high-has, has-low, has-high, has?}
+use Rattle.bits.proofs.Members.{zero-off, low-has, high-has, has-low, has-high}
 use Rattle.witness.specs.Loops.{WithIf}
 
 -- of the bits of a word without those that are left, found has those with P
@@ -63,8 +63,3 @@ sifted P s r f g = record { exactly = λ w m. by-cases (decLt w 64) (low w) (λ 
           (λ k. let (on, p) = g (w - 64) .0 (has-high r (w - 64) l k) in (high-has s (w - 64) l on, p)),
           (λ (k, p). high-has r (w - 64) l (g (w - 64) .1 (has-high s (w - 64) l k, p))),
         )
-
--- where nothing else is left, all have P
-pub all-sifted : {P : ℕ → Type 0} {s r d : Set} → Members (λ (w : ℕ). Has s w × P w) r → Difference s r d → Empty d
-    → (w : ℕ) → Has s w → P w
-all-sifted {r = r} M D E w h = by-cases (has? r w) (λ k. M .exactly w (h .below) .0 k .1) (λ n. absurd (E w (D w .1 (h, n))))

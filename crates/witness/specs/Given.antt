@@ -1,22 +1,23 @@
 -- What the checks of a labelling are given, and what is worked out of it once.
-use Prim.Native.Nat.{ℕ, min, _+_, _*_, _/_, _%_, _≤_, _<_}
+use Prim.Native.Nat.{ℕ, _+_, _*_, _/_, _%_, _≤_, _<_}
 use mathlib.Core.Path.{_≡_}
 use mathlib.Core.Logic.{_⊎_, _↔_}
 use mathlib.Core.List.{List}
 use lib.ListN.{length, getD}
 use Rattle.bits.specs.First.{First}
 use Rattle.bits.specs.declared.sets.Set.{Set}
-use Rattle.bits.specs.Sets.{Has, Members, sizeOf}
+use Rattle.bits.specs.Sets.{Has, Members, sizeOf, Ones}
 use Rattle.bits.specs.Tables.{rowOf, HasRow, Table}
 use Rattle.theory.specs.Paths.{Edges}
 use Rattle.theory.specs.Charts.{Steps, Any, Branch, Loop}
 use Rattle.theory.specs.Checks.{Unreached}
 use Rattle.report.specs.declared.Stage.the-variants.{Passed}
-use Rattle.chart.specs.Bodies.{verticesOf, startOf, countOf}
+use Rattle.chart.specs.Bodies.{verticesOf, startOf, countOf, toOf, WellFormed}
 use Rattle.chart.specs.Checks.{checkOf}
 use Rattle.chart.specs.Leaving.{Begins}
 use Rattle.chart.specs.Sets.{Known}
 use Rattle.chart.specs.Steps.{StepsOf}
+use Rattle.witness.specs.declared.tables.Taken.{Taken}
 use Rattle.witness.specs.declared.tables.Outgoing.{Outgoing}
 
 -- 20, 21 and 30 pass, and begins says where the transitions of each vertex begin
@@ -64,37 +65,57 @@ NoSteps u l w = ⊥
 abbrev pub FirstOf : ℕ → Steps → Steps
 FirstOf n S u l w = (u < n) × S u l w
 
--- where the transitions of u lead to, and the lowest level of its entries, or 256 where it has none
+-- where the branches and the entries of u lead to
 pub record OutgoingOf (S : Steps) (u : ℕ) (r : Outgoing) : Type 0 where
   pub of-branches : Members (Branch S u) (r .branches)
   pub of-entries : Members (Entry S u) (r .entries)
-  pub of-low : First (Loop S u) 0 256 (r .low)
-
--- r has what s has, and where C holds w too
-abbrev pub WithWhere : Type 0 → ℕ → Set → Set → Type 0
-WithWhere C w s r = (y : ℕ) → Has r y ↔ (Has s y ⊎ (C × (y ≡ w)))
-
--- r is s with one transition more, which has this label and leads to w
-pub record OutgoingWith (s : Outgoing) (label w : ℕ) (r : Outgoing) : Type 0 where
-  pub branches : WithWhere (label ≡ 0) w (s .branches) (r .branches)
-  pub entries : WithWhere (0 < label) w (s .entries) (r .entries)
-  pub as-before : label ≡ 0 → r .low ≡ s .low
-  pub lowered : 0 < label → r .low ≡ min (s .low) label
 
 -- the levels of u's entries, by vertex: u in the set of each of them
 abbrev pub EntersFrom : ℕ → Steps → ℕ → ℕ → Type 0
 EntersFrom u S l x = (x ≡ u) × Enters S l x
 
--- for each vertex where its transitions, its branches and its entries lead to, and their lowest level; for each level
--- the vertices with an entry of it
-pub record Collected (S : Steps) (next branches entries low entered : List ℕ) : Type 0 where
+-- for each vertex where its transitions, its branches and its entries lead to; for each level the vertices with an
+-- entry of it
+pub record Collected (S : Steps) (next branches entries entered : List ℕ) : Type 0 where
   pub of-next : Table 128 (Any S) next
   pub of-branches : Table 128 (Branch S) branches
   pub of-entries : Table 128 (Entry S) entries
-  pub of-low : LowestLevels S low
   pub of-entered : Table 256 (Enters S) entered
 
--- the sets of a table after set top have nothing
+-- A RUN OF TRANSITIONS, from a up to e, and a table by which what they lead to comes into a set
+pub record Run (b ones : List ℕ) (a e : ℕ) : Type 0 where
+  pub formed : WellFormed b
+  pub ordered : a ≤ e
+  pub within : e ≤ countOf b
+  pub of-ones : Ones (verticesOf b) ones
+
+-- transition i is a branch, and an entry
+abbrev pub IsBranch : List ℕ → ℕ → Type 0
+IsBranch labels i = getD labels i 0 ≡ 0
+
+abbrev pub IsEntry : List ℕ → ℕ → Type 0
+IsEntry labels i = 0 < getD labels i 0
+
+-- one of the run leads to w
+abbrev pub Targets : List ℕ → ℕ → ℕ → ℕ → Type 0
+Targets b a e w = (i : ℕ) × (a ≤ i) × (i < e) × (toOf b i ≡ w)
+
+-- r has what s has, and what the run leads to
+pub record WithTargets (b : List ℕ) (a e : ℕ) (s r : Set) : Type 0 where
+  pub exactly : (w : ℕ) → Has r w ↔ (Has s w ⊎ Targets b a e w)
+
+-- a first part of the run, all of it with P: what it leads to has come to the set s
+pub record Took (b : List ℕ) (P : ℕ → Type 0) (a e : ℕ) (s : Set) (r : Taken) : Type 0 where
+  pub from : a ≤ r .at
+  pub to : r .at ≤ e
+  pub each : (i : ℕ) → a ≤ i → i < r .at → P i
+  pub targets : WithTargets b a (r .at) s (r .set)
+
+-- u in the set of each label of the run
+abbrev pub LevelsOf : List ℕ → ℕ → ℕ → ℕ → ℕ → ℕ → Type 0
+LevelsOf labels a e u l x = (x ≡ u) × ((i : ℕ) × (a ≤ i) × (i < e) × (getD labels i 0 ≡ l))
+
+-- LEVELS. The sets of a table after set top have nothing
 abbrev pub NoneAbove : List ℕ → ℕ → Type 0
 NoneAbove a top = (x y : ℕ) → top < x → x < 256 → ¬ HasRow a x y
 
@@ -105,6 +126,12 @@ InLater a x y = (m : ℕ) × (x < m) × (m < 256) × HasRow a m y
 -- how many numbers the sets 2 k and 2 k + 1 of a table have
 abbrev pub sizesOf : List ℕ → ℕ → ℕ
 sizesOf a k = sizeOf (rowOf a (2 * k)) + sizeOf (rowOf a (2 * k + 1))
+
+-- r has x for each number of the set, and for the others what a has
+pub record PutFor (s : Set) (x : ℕ) (a r : List ℕ) : Type 0 where
+  pub long : length r ≡ length a
+  pub of-set : (v : ℕ) → Has s v → getD r v 0 ≡ x
+  pub others : (v : ℕ) → ¬ Has s v → getD r v 0 ≡ getD a v 0
 
 -- THE LOOPS OF ONE VERTEX
 -- l is among the levels, a table of two sets

@@ -15,13 +15,15 @@ use report::Stage;
 use tables::collect;
 use tables::count_loops;
 use tables::join_later;
+use tables::lowest_levels;
 ghost use mathlib.Core.Path.{_≡_};
 ghost use Rattle.chart.specs.Checks.{checkOf};
+ghost use Rattle.chart.specs.Leaving.{Begins};
 ghost use Rattle.witness.specs.Labellings.{labelledOf};
 
-// What 30 to 35 say of a labelling beside a chart body that 20 and 21 let pass.
-pub fn check(body: &[u8], labels: &[u8]) -> Labelled
-    requires { ⌜ checkOf (now body) ≡ Stage.Passed ⌝ }
+// What 30 to 35 say of a labelling beside a chart body that 20 and 21 let pass, by where its transitions begin.
+pub fn check(body: &[u8], labels: &[u8], begins: &[usize; 129]) -> Labelled
+    requires { ⌜ (checkOf (now body) ≡ Stage.Passed) × Begins (now body) (now begins) ⌝ }
     ensures { λ r. ⌜ r ≡ labelledOf (now (body .entry)) (now (labels .entry)) ⌝ }
 {
     if labels.len() != chart::count(body) {
@@ -31,39 +33,37 @@ pub fn check(body: &[u8], labels: &[u8]) -> Labelled
     let mut next = [0u64; 256];
     let mut branches = [0u64; 256];
     let mut entries = [0u64; 256];
-    let mut low = [256usize; 128];
     let mut high = [0u64; 512];
-    let begins = chart::begins(body);
     collect(
         body,
         labels,
-        &begins,
+        begins,
         n,
         &mut next,
         &mut branches,
         &mut entries,
-        &mut low,
         &mut high,
     );
     let p = unreached(body, &next);
     if p < n {
         return Labelled::Refused(Place::Unreached(p));
     }
-    // where there is no cycle, `after` has what each vertex reaches by branches
-    let mut after = [0u64; 256];
-    let c = cycle(&branches, n, &mut after);
+    // where there is no cycle, `next` has from here on what each vertex reaches by branches
+    let c = cycle(&branches, n, &mut next);
     if c < n {
         return Labelled::Refused(Place::BranchCycle(c));
     }
     let top = highest_byte(labels);
     let loops = count_loops(&high, top);
+    let mut low = [256usize; 128];
+    lowest_levels(&high, top, &mut low);
     join_later(&mut high, top);
     match loops_check(
         body,
         labels,
-        &begins,
+        begins,
         &branches,
-        &after,
+        &next,
         &entries,
         &low,
         &high,

@@ -22,13 +22,10 @@ pub(crate) fn unreached(body: &[u8], next: &[u64; 256]) -> usize
 {
     let n = byte(body, 0);
     let start = Set::empty().with(byte(body, 1));
-    let reached = closure(next, 0, start);
-    let mut w: usize = 1;
-    while w < n {
-        if !reached.contains(w) {
-            return w;
-        }
-        w += 1;
+    let reached = closure(next, 0, start).with(0);
+    let w = Set::below(n).difference(reached).lowest();
+    if w == 128 {
+        return n;
     }
     w
 }

@@ -1,112 +1,167 @@
 // The transitions of a labelled chart as tables of sets of vertices.
 use bits::Set;
 use bits::byte;
+use bits::fill_ones;
+use bits::read_u64;
 use bits::tables::insert;
 use bits::tables::join;
 use bits::tables::put_row;
 use bits::tables::row;
 ghost use mathlib.Core.Path.{_≡_};
 ghost use mathlib.Core.List.{List};
-ghost use Prim.Native.Nat.{ℕ, min, _+_, _*_, _≤_, _<_};
-ghost use lib.ListN.{length};
+ghost use Prim.Native.Nat.{ℕ, _+_, _≤_, _<_};
+ghost use lib.ListN.{length, replicate};
 ghost use Rattle.bits.specs.Bits.{Bytes};
-ghost use Rattle.bits.specs.Tables.{Table, Gains, When};
-ghost use Rattle.chart.specs.Bodies.{verticesOf};
+ghost use Rattle.bits.specs.Sets.{Ones};
+ghost use Rattle.bits.specs.Tables.{Table, Gains};
+ghost use Rattle.chart.specs.Bodies.{verticesOf, countOf};
 ghost use Rattle.chart.specs.Checks.{checkOf};
 ghost use Rattle.chart.specs.Steps.{StepsOf};
-ghost use Rattle.witness.specs.Given.{Given, Enters, EntersFrom, NoSteps, OutgoingOf, OutgoingWith};
-ghost use Rattle.witness.specs.Given.{Collected, NoneAbove, InLater, sizesOf};
+ghost use Rattle.witness.specs.Given.{Given, Enters, EntersFrom, LowestLevels, NoSteps};
+ghost use Rattle.witness.specs.Given.{Run, IsBranch, IsEntry, WithTargets, Took, LevelsOf, OutgoingOf};
+ghost use Rattle.witness.specs.Given.{Collected, NoneAbove, InLater, sizesOf, PutFor};
 ghost use Rattle.witness.specs.Labellings.{loopsOf};
 use report::Stage;
 
-// Where transitions of a vertex lead: the branches, the entries, and the lowest level of those, or 256.
+// A set with what a run of transitions leads to, and the place after the run.
+pub struct Taken {
+    pub set: Set,
+    pub at: usize,
+}
+
+// Where the branches of a vertex lead to, and where its entries do.
 pub struct Outgoing {
     pub branches: Set,
     pub entries: Set,
-    pub low: usize,
 }
 
-// No transitions.
-fn none_outgoing() -> Outgoing
-    ensures { λ r. ⌜ ((u : ℕ) → OutgoingOf NoSteps u r) ⌝ }
+// The set with what eight transitions lead to.
+fn with_eight(body: &[u8], ones: &[u64; 192], at: usize, set: Set) -> Set
+    requires { ⌜ Run (now body) (now ones) at (at + 8) ⌝ }
+    ensures { λ r. ⌜ WithTargets (now (body .entry)) at (at + 8) set r ⌝ }
 {
-    Outgoing {
-        branches: Set::empty(),
-        entries: Set::empty(),
-        low: 256,
+    let end = at + 8;
+    let mut all = set;
+    let mut i = at;
+    while i < end {
+        all = all.with_by(ones, byte(body, 4 * i + 4 + 2));
+        i += 1;
     }
+    all
 }
 
-// The lesser of two numbers.
-fn lesser(a: usize, b: usize) -> usize
-    ensures { λ r. ⌜ r ≡ min a b ⌝ }
+// From `at` on, branches up to `end`, as long as eight follow each other.
+fn take_eights(
+    body: &[u8],
+    labels: &[u8],
+    ones: &[u64; 192],
+    at: usize,
+    end: usize,
+    set: Set,
+) -> Taken
+    requires { ⌜ Run (now body) (now ones) at end × (length (now labels) ≡ countOf (now body)) ⌝ }
+    ensures { λ r. ⌜ Took (now (body .entry)) (IsBranch (now (labels .entry))) at end set r ⌝ }
 {
-    if b < a { b } else { a }
-}
-
-// One branch more, to w.
-fn with_branch(out: Outgoing, w: usize) -> Outgoing
-    requires { ⌜ w < 128 ⌝ }
-    ensures { λ r. ⌜ OutgoingWith out 0 w r ⌝ }
-{
-    let branches = out.branches;
-    let entries = out.entries;
-    Outgoing {
-        branches: branches.with(w),
-        entries,
-        low: out.low,
+    let mut all = set;
+    let mut i = at;
+    while i + 8 <= end {
+        if read_u64(labels, i) != 0 {
+            return Taken { set: all, at: i };
+        }
+        all = with_eight(body, ones, i, all);
+        i += 8;
     }
+    Taken { set: all, at: i }
 }
 
-// One entry more, to w.
-fn with_entry(out: Outgoing, level: usize, w: usize) -> Outgoing
-    requires { ⌜ (0 < level) × (w < 128) ⌝ }
-    ensures { λ r. ⌜ OutgoingWith out level w r ⌝ }
+// From `at` on, branches up to the first entry or to `end`.
+fn take_branches(
+    body: &[u8],
+    labels: &[u8],
+    ones: &[u64; 192],
+    at: usize,
+    end: usize,
+    set: Set,
+) -> Taken
+    requires { ⌜ Run (now body) (now ones) at end × (length (now labels) ≡ countOf (now body)) ⌝ }
+    ensures { λ r. ⌜ Took (now (body .entry)) (IsBranch (now (labels .entry))) at end set r
+        × (r .at < end → IsEntry (now (labels .entry)) (r .at)) ⌝ }
 {
-    let branches = out.branches;
-    let entries = out.entries;
-    Outgoing {
-        branches,
-        entries: entries.with(w),
-        low: lesser(out.low, level),
+    let first = take_eights(body, labels, ones, at, end, set);
+    let mut all = first.set;
+    let mut i = first.at;
+    while i < end {
+        if byte(labels, i) != 0 {
+            return Taken { set: all, at: i };
+        }
+        all = all.with_by(ones, byte(body, 4 * i + 4 + 2));
+        i += 1;
     }
+    Taken { set: all, at: i }
 }
 
-// One transition of u more, to w. Where it is an entry, u comes into the set of its level.
-fn with_step(out: Outgoing, label: usize, w: usize, u: usize, entered: &mut [u64]) -> Outgoing
-    requires { ⌜ (length (now entered) ≡ 512) × (label < 256) × (w < 128) × (u < 128) ⌝ }
-    ensures { λ r. ⌜ OutgoingWith out label w r
-        × Gains (When (0 < label) label u) (now (entered .entry)) (now (entered .exit)) ⌝ }
+// From `at` on, entries of u up to the first branch or to `end`. It comes into the sets of their levels.
+fn take_entries(
+    body: &[u8],
+    labels: &[u8],
+    ones: &[u64; 192],
+    u: usize,
+    at: usize,
+    end: usize,
+    set: Set,
+    entered: &mut [u64],
+) -> Taken
+    requires { ⌜ Run (now body) (now ones) at end
+        × (length (now labels) ≡ countOf (now body))
+        × (u < 128)
+        × (length (now entered) ≡ 512) ⌝ }
+    ensures { λ r. ⌜ Took (now (body .entry)) (IsEntry (now (labels .entry))) at end set r
+        × (r .at < end → IsBranch (now (labels .entry)) (r .at))
+        × Gains (LevelsOf (now (labels .entry)) at (r .at) u) (now (entered .entry)) (now (entered .exit)) ⌝ }
 {
-    if label == 0 {
-        return with_branch(out, w);
+    let mut all = set;
+    let mut i = at;
+    while i < end {
+        let label = byte(labels, i);
+        if label == 0 {
+            return Taken { set: all, at: i };
+        }
+        insert(entered, label, u);
+        all = all.with_by(ones, byte(body, 4 * i + 4 + 2));
+        i += 1;
     }
-    insert(entered, label, u);
-    with_entry(out, label, w)
+    Taken { set: all, at: i }
 }
 
-// The transitions of u. It comes into the sets of the levels of its entries.
+// The transitions of u, run by run. It comes into the sets of the levels of its entries.
 fn outgoing_of(
     body: &[u8],
     labels: &[u8],
     begins: &[usize; 129],
+    ones: &[u64; 192],
     u: usize,
     entered: &mut [u64],
 ) -> Outgoing
-    requires { ⌜ Given (now body) (now labels) (now begins) × (u < 128) × (length (now entered) ≡ 512) ⌝ }
+    requires { ⌜ Given (now body) (now labels) (now begins)
+        × Ones (verticesOf (now body)) (now ones)
+        × (u < 128)
+        × (length (now entered) ≡ 512) ⌝ }
     ensures { λ r. ⌜ OutgoingOf (StepsOf (now (body .entry)) (now (labels .entry))) u r
         × Gains (EntersFrom u (StepsOf (now (body .entry)) (now (labels .entry))))
         (now (entered .entry)) (now (entered .exit)) ⌝ }
 {
     let end = begins[u + 1];
-    let mut out = none_outgoing();
+    let mut branches = Set::empty();
+    let mut entries = Set::empty();
     let mut i = begins[u];
     while i < end {
-        let w = byte(body, 4 * i + 4 + 2);
-        out = with_step(out, byte(labels, i), w, u, entered);
-        i += 1;
+        let some = take_branches(body, labels, ones, i, end, branches);
+        branches = some.set;
+        let more = take_entries(body, labels, ones, u, some.at, end, entries, entered);
+        entries = more.set;
+        i = more.at;
     }
-    out
+    Outgoing { branches, entries }
 }
 
 // Puts all transitions into the tables, vertex by vertex.
@@ -118,25 +173,59 @@ pub(crate) fn collect(
     next: &mut [u64; 256],
     branches: &mut [u64; 256],
     entries: &mut [u64; 256],
-    low: &mut [usize; 128],
     entered: &mut [u64],
 )
     requires { ⌜ Given (now body) (now labels) (now begins)
         × (n ≡ verticesOf (now body))
-        × Collected NoSteps (now next) (now branches) (now entries) (now low) (now entered) ⌝ }
+        × Collected NoSteps (now next) (now branches) (now entries) (now entered) ⌝ }
     ensures { λ _. ⌜ Collected (StepsOf (now (body .entry)) (now (labels .entry)))
-        (now (next .exit)) (now (branches .exit)) (now (entries .exit)) (now (low .exit)) (now (entered .exit)) ⌝ }
+        (now (next .exit)) (now (branches .exit)) (now (entries .exit)) (now (entered .exit)) ⌝ }
 {
-    let mut u: usize = 0;
+    let mut ones = [0u64; 192];
+    fill_ones(&mut ones, n);
+    // nothing leaves the end
+    let mut u: usize = 1;
     while u < n {
-        let out = outgoing_of(body, labels, begins, u, entered);
+        let out = outgoing_of(body, labels, begins, &ones, u, entered);
         let by_branch = out.branches;
         let by_entry = out.entries;
         put_row(next, u, by_branch.union(by_entry));
         put_row(branches, u, by_branch);
         put_row(entries, u, by_entry);
-        low[u] = out.low;
         u += 1;
+    }
+}
+
+// The level becomes that of each vertex of a set.
+fn put_level(low: &mut [usize; 128], set: Set, level: usize)
+    requires { ⌜ length (now low) ≡ 128 ⌝ }
+    ensures { λ _. ⌜ PutFor set level (now (low .entry)) (now (low .exit)) ⌝ }
+{
+    let mut left = set;
+    let mut v = left.lowest();
+    while v < 128 {
+        low[v] = level;
+        left = left.without_lowest();
+        v = left.lowest();
+    }
+}
+
+// The lowest level of the entries of each vertex, of the levels up to the highest.
+pub(crate) fn lowest_levels(entered: &[u64; 512], top: usize, low: &mut [usize; 128])
+    requires { ⌜ (length (now entered) ≡ 512)
+        × (top < 256)
+        × NoneAbove (now entered) top
+        × (now low ≡ replicate 128 256) ⌝ }
+    ensures { λ _. ⌜ ((b labels : List ℕ) → Table 256 (Enters (StepsOf b labels)) (now (entered .entry))
+        → LowestLevels (StepsOf b labels) (now (low .exit))) ⌝ }
+{
+    let mut seen = Set::empty();
+    let mut level: usize = 1;
+    while level <= top {
+        let here = row(entered, level);
+        put_level(low, here.difference(seen), level);
+        seen = seen.union(here);
+        level += 1;
     }
 }
 

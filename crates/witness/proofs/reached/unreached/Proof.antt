@@ -1,97 +1,95 @@
 use borrow.Author.Needs.{needs}
 use mathlib.Core.List.{List}
-use mathlib.Core.Logic.{by-cases}
-use mathlib.Core.Path.{_≡_}
-use Prim.Native.Nat.{ℕ, _≤_, _<_, _-_}
-use native.Mathlib.Decide.{ℕ-discrete}
+use Prim.Native.Nat.{ℕ}
 use native.Mathlib.Omega.{arith}
-use borrow.Author.Tests.{not-true, not-false}
-use Rattle.bits.specs.Sets.{Has, Members}
+use Rattle.bits.specs.Sets.{Members}
 use Rattle.bits.specs.Tables.{Table}
 use Rattle.theory.specs.Charts.{Any}
 use Rattle.theory.specs.Paths.{Star}
-use Rattle.theory.proofs.Tests.{not-so}
+use Rattle.chart.specs.Bodies.{startOf}
 use Rattle.chart.specs.Steps.{StepsOf}
-use Rattle.chart.specs.Bodies.{verticesOf, startOf, WellFormed}
 use Rattle.chart.proofs.Checks.{well-formed}
-use Rattle.witness.proofs.Reaching.{only-member, members-reached, unreached-here, unreached-none}
+use Rattle.witness.proofs.Reaching.{only-member, members-reached, lowest-unreached, none-missing}
 use Rattle.witness.proofs.reached.unreached.Statement.{statement}
 use Rattle.witness.proofs.reached.unreached.Tie as tie
 
-abbrev Inv-loop : tie.InvT-loop
-Inv-loop body next n reached w₀ w =
-    WellFormed body × (n ≡ verticesOf body) × (1 ≤ w) × (w ≤ n) × ((k : ℕ) → 0 < k → k < w → Has reached k)
-    × ((labels : List ℕ) → Table 128 (Any (StepsOf body labels)) next → Members (Star (Any (StepsOf body labels)) (startOf body)) reached)
+-- the closure is what the start reaches
+abbrev entry : tie.After-closure → tie.Start
+entry k = k .before .before .before .before .before .before
 
-abbrev μ-loop : tie.MeasureT-loop
-μ-loop body next n reached w₀ w = n - w
+abbrev Next : tie.After-closure → List ℕ → ℕ → ℕ → Type 0
+Next k labels = Any (StepsOf (entry k .args .body .now) labels)
 
-byte-requires : tie.Need-byte-requires Inv-loop μ-loop
+reached : (k : tie.After-closure) (labels : List ℕ) → Table 128 (Next k labels) (entry k .args .next .now)
+    → Members (Star (Next k labels) (startOf (entry k .args .body .now))) (k .closure .result)
+reached k labels T =
+    let w = well-formed _ (entry k .pre .0) in
+    let start = only-member (k .before .before .before .empty .ensures) (k .before .with .ensures) in
+    let here = rw (k .before .before .byte2 .ensures .0) at start in
+    members-reached w T (omega (arith, w .header .start-high, w .header .vertices-high)) here (k .closure .ensures)
+
+byte-requires : tie.Need-byte-requires
 byte-requires c κs = let w = well-formed _ (c .before .pre .0) .header .long in omega arith
 
-empty-requires : tie.Need-empty-requires Inv-loop μ-loop
+empty-requires : tie.Need-empty-requires
 empty-requires c κs = search needs
 
-byte-requires-2 : tie.Need-byte-requires-2 Inv-loop μ-loop
+byte-requires-2 : tie.Need-byte-requires-2
 byte-requires-2 c κs = let w = well-formed _ (c .before .before .before .pre .0) .header .long in omega arith
 
-with-requires : tie.Need-with-requires Inv-loop μ-loop
+with-requires : tie.Need-with-requires
 with-requires c κs = let w = well-formed _ (c .before .before .before .before .pre .0) .header in omega arith
 
-closure-requires : tie.Need-closure-requires Inv-loop μ-loop
-closure-requires c κs = (c .before .before .before .before .before .pre .1, omega arith)
+closure-requires : tie.Need-closure-requires
+closure-requires c κs = search needs
 
-loop-holds : tie.Need-loop-holds Inv-loop μ-loop
-loop-holds c =
-    let w = well-formed _ (c .before .before .before .before .before .before .pre .0) in
-    let start = only-member (c .before .before .before .empty .ensures) (c .before .with .ensures) in (
-      w,
-      c .before .before .before .before .byte .ensures .0,
-      omega arith,
-      omega (arith, w .header .vertices-low),
-      λ k a h. absurd (omega arith),
-      λ labels T. members-reached w T (omega (arith, w .header .start-high, w .header .vertices-high)) (rw (c .before .before .byte2 .ensures .0) at start) (c .closure .ensures),
-    )
+with-requires-2 : tie.Need-with-requires-2
+with-requires-2 c κs = search needs
 
-contains-requires : tie.Need-contains-requires Inv-loop μ-loop
-contains-requires c κs = search needs
+below-requires : tie.Need-below-requires
+below-requires c κs =
+    let e = c .before .before .before .before .before .byte .ensures .0 in
+    omega (arith, e, well-formed _ (c .before .before .before .before .before .before .before .pre .0) .header .vertices-high)
 
-returns : tie.Need-returns Inv-loop μ-loop
+difference-requires : tie.Need-difference-requires
+difference-requires c κs = search needs
+
+lowest-requires : tie.Need-lowest-requires
+lowest-requires c κs = search needs
+
+returns : tie.Need-returns
 returns c =
-    let i = c .before .before .before .loop .inv in
-    λ labels T. unreached-here (i .0) (i .5 labels T) (i .4) (omega arith) (omega arith) (not-so (c .before .contains .ensures) (not-true _ (c .if1 .taken)))
+    let l = c .before in
+    let d = l .before in
+    let k = d .before .before .before in
+    let e = k .before .before .before .before .byte .ensures .0 in
+    let vertices = rw e at (d .before .below .ensures) in
+    λ labels T.
+    none-missing (well-formed _ (entry k .pre .0)) (reached k labels T) vertices (d .before .before .with2 .ensures)
+    (d .difference .ensures) (l .lowest .ensures) (c .if1 .taken) e
 
-add-w : tie.Need-add-w Inv-loop μ-loop
-add-w c = search needs
-
-loop-less : tie.Need-loop-less Inv-loop μ-loop
-loop-less c = search needs
-
-loop-again : tie.Need-loop-again Inv-loop μ-loop
-loop-again c =
-    let l = c .before .before .before .loop in
-    let i = l .inv in
-    let here = c .before .contains .ensures .0 (not-false _ (c .if1 .left)) in
-    (i .0, i .1, omega arith, omega arith, λ k a h. by-cases (ℕ-discrete k (l .w)) (λ e. rw e here) (λ e. i .4 k a (omega arith)), i .5)
-
-returns-2 : tie.Need-returns-2 Inv-loop μ-loop
-returns-2 c = let i = c .before .loop .inv in λ labels T. unreached-none (i .0) (i .5 labels T) (i .4) (omega arith)
+returns-2 : tie.Need-returns-2
+returns-2 c =
+    let l = c .before in
+    let d = l .before in
+    let k = d .before .before .before in
+    let vertices = rw (k .before .before .before .before .byte .ensures .0) at (d .before .below .ensures) in
+    λ labels T.
+    lowest-unreached (well-formed _ (entry k .pre .0)) (reached k labels T) vertices (d .before .before .with2 .ensures)
+    (d .difference .ensures) (l .lowest .ensures) (c .if1 .left)
 
 pub unreached-spec : {M : Type 1} → statement M
 unreached-spec =
     tie.close
     (tie.spec
-    Inv-loop
-    μ-loop
     byte-requires
     empty-requires
     byte-requires-2
     with-requires
     closure-requires
-    loop-holds
-    contains-requires
+    with-requires-2
+    below-requires
+    difference-requires
+    lowest-requires
     returns
-    add-w
-    loop-less
-    loop-again
     returns-2)
