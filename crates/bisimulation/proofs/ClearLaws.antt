@@ -5,35 +5,37 @@ use mathlib.Core.List.{List}
 use Prim.Native.Nat.{ℕ, _+_, _/_, _%_, _^_, _≤_, _<_}
 use native.Mathlib.Decide.{ℕ-discrete}
 use native.Mathlib.Omega.{arith}
-use lib.ListN.{length, getD, replicate}
+use lib.ListN.{getD, replicate}
 use Rattle.theory.specs.Systems.{converse}
-use Rattle.theory.specs.Relations.{AllMatched}
+use Rattle.theory.specs.Relations.{AllMatched, related, all-pass}
+use Rattle.report.specs.declared.Stage.the-variants.{Passed}
 use Rattle.bits.specs.Bits.{Bytes}
 use Rattle.bits.specs.declared.sets.Set.{Set}
 use Rattle.bits.specs.Words.{On}
 use Rattle.bits.specs.Sets.{Has, emptySet, Empty, Members, Intersection, Difference}
 use Rattle.bits.specs.Tables.{rowOf, HasRow, putRow, Table, InSome}
-use Rattle.bits.proofs.Members.{zero-off, none, low-has, has-low, has?}
+use Rattle.bits.proofs.Members.{zero-off, none, has?}
 use Rattle.bits.proofs.Gains.{put-long, put-here, put-other}
-use Rattle.chart.specs.Bodies.{verticesOf, actionOf, toOf, WellFormed}
+use Rattle.chart.specs.Bodies.{verticesOf, startOf, actionOf, toOf, WellFormed}
 use Rattle.chart.specs.Leaving.{Begins}
+use Rattle.chart.proofs.Checks.{well-formed}
 use Rattle.chart.proofs.Order.{at-mid, between}
+use Rattle.bisimulation.specs.declared.clearing.Known.{Known}
 use Rattle.bisimulation.specs.declared.clearing.Matches.{Matches}
 use Rattle.bisimulation.specs.Relations.{indexedOf}
-use Rattle.bisimulation.specs.Answers.{Related, RelationFits, Passes}
-use Rattle.bisimulation.specs.Suspects.{Acting, UsedBy, Used, Tabled, Match, MatchedIn, Able, Walked, Cleared, SameEnd, Refusable, Gathered}
+use Rattle.bisimulation.specs.Answers.{Related, RelationFits, Passes, CheckedAnswer, NumberedChart}
+use Rattle.bisimulation.specs.Suspects.{Column, Into, Acting, UsedBy, Used, Match, MatchedIn, Clear, Able, Knows, Walked, Cleared, SameEnd, Refusable, Gathered}
+use Rattle.bisimulation.specs.Classes.{Unsuspected}
 use Rattle.bisimulation.specs.Pairs.{StepTables, Sought}
 use Rattle.bisimulation.proofs.StepLaws.{step-of, at-step, match-low, is-matched}
 
--- `matching`: x and y are the target and the action that the code reads, and s is the set of the target
-pub match-read : (into acting body : List ℕ) (i r : ℕ) {x y : ℕ} {s : Set} → ((k : ℕ) → On (getD acting y 0) k → k < 64) → x ≡ toOf body i → y ≡ actionOf body i → s ≡ rowOf into x → ((j : ℕ) → On r j ↔ (On (s .lo) j × On (getD acting y 0) j)) → (k : ℕ) → On r k ↔ Match into acting body i k
-match-read into acting body i r {x} {y} {s} low e f g h k = ((λ on. there (h k .0 on)), back)
-  where
-    there : On (s .lo) k × On (getD acting y 0) k → Match into acting body i k
-    there (p, q) = (rw (g, e) at (low-has s k (low k q) p), rw f at q)
+-- `matching`: x and y are the target and the action that the code reads
+pub match-read : (into acting body : List ℕ) (i r : ℕ) {x y : ℕ} → x ≡ toOf body i → y ≡ actionOf body i → ((j : ℕ) → On r j ↔ (On (getD into x 0) j × On (getD acting y 0) j)) → (k : ℕ) → On r k ↔ Match into acting body i k
+match-read into acting body i r e f h k = ((λ on. let (p, q) = h k .0 on in (rw e at p, rw f at q)), (λ (p, q). h k .1 (rw e p, rw f q)))
 
-    back : Match into acting body i k → On r k
-    back (p, q) = let b : On (getD acting y 0) k = rw f q in let a : Has s k = rw (g, e) p in h k .1 (has-low s k (low k b) a, b)
+-- `gather`: at first nothing is known
+pub knows-none : (users : List ℕ) {rows : Set} → rows ≡ emptySet → Knows users (record { steps = 0; rows = rows })
+knows-none users e = record { exactly = λ u l. ((λ h. absurd (none u (rw e at h))), (λ (k, on, h). absurd (zero-off k on))) }
 
 -- `walk`: the transitions from a to i; each row left has a step of the last word
 pub record Walking (into acting users body : List ℕ) (a : ℕ) (set : Set) (matched last : ℕ) (able : Set) (i : ℕ) : Type 0 where
@@ -44,8 +46,8 @@ pub record Walking (into acting users body : List ℕ) (a : ℕ) (set : Set) (ma
   pub same : (u : ℕ) → Has able u → InSome users last u
 
 -- no transition at all
-pub walk-none : (into acting users body : List ℕ) {a b : ℕ} (set : Set) → b ≤ a → Walked into acting users body a b set (record { matched = 0; able = set })
-walk-none into acting users body set l = record { matched = λ k on. absurd (zero-off k on); given = λ u h. h; able = λ u h i f g. absurd (omega arith) }
+pub walk-none : (into acting users body : List ℕ) {a b : ℕ} (set : Set) (known : Known) → b ≤ a → Walked into acting users body a b set (record { matched = 0; able = set; known = known })
+walk-none into acting users body set known l = record { matched = λ k on. absurd (zero-off k on); given = λ u h. h; able = λ u h i f g. absurd (omega arith) }
 
 -- the rows with a step of a word
 steps-in : (users : List ℕ) (x : ℕ) {s t r : Set} → Members (InSome users x) t → Intersection s t r → (u : ℕ) → Has r u → InSome users x u
@@ -62,8 +64,8 @@ walk-first into acting users body a first E U I = record {
 }
 
 module _ {into acting users body : List ℕ} {a : ℕ} {set : Set} {matched last : ℕ} {able : Set} {i : ℕ} (S : Walking into acting users body a set matched last able i) where
-  pub walk-all : {b : ℕ} {all union : Set} → Intersection all union set → b ≤ i → i ≤ b → Walked into acting users body a b all (record { matched = matched; able = able })
-  walk-all I l m = record {
+  pub walk-all : {b : ℕ} {all union : Set} (known : Known) → Intersection all union set → b ≤ i → i ≤ b → Walked into acting users body a b all (record { matched = matched; able = able; known = known })
+  walk-all known I l m = record {
     matched = λ k on. let (j, f, h, M) = S .matches k on in (j, f, omega arith, M);
     given = λ u h. I u .0 (S .given u h) .0;
     able = λ u h j f g. S .all u h j f (omega arith);
@@ -98,10 +100,6 @@ module _ {into acting users body : List ℕ} {a : ℕ} {set : Set} {matched last
         found : (k : ℕ) → On matched k ⊎ On next k → MatchedIn into acting body a (i + 1) k
         found k (inl on) = let (j, f, h, M) = S .matches k on in (j, f, omega arith, M)
         found k (inr on) = (i, S .from, omega arith, E k .0 on)
-
--- what the tables are
-pub tabled : {keys into acting body : List ℕ} {m : ℕ} → length into ≡ 256 → Acting keys m acting → m ≤ 64 → WellFormed body → Tabled into acting body
-tabled l A few W = record { into-long = l; acting-long = A .long; low = λ a k h on. omega (arith, A .exactly a k h .0 on .0); formed = W }
 
 -- 43 as sets
 pub ends-zero : {v : ℕ} {set zero one r : Set} → v ≡ 0 → zero ≡ emptySet → ((y : ℕ) → Has one y ↔ (Has zero y ⊎ (y ≡ 0))) → Intersection set one r → Members (SameEnd v set) r
@@ -163,32 +161,52 @@ gather-more {columns} {into} {acting} {users} {body} {t} {both} {used} {v} {set}
         (λ e. subst (Cleared into acting users used body u) (sym e) (R .others u (rw q (subst (λ (x : ℕ). HasRow columns x u) e h)) (λ z. n (rw (here w e) z))))
         (λ e. G .others u w (omega arith) h (λ z. n (rw (put-other t v more w e) z)))
 
+-- the tables are those of every chart whose steps are so numbered
+pub step-tables : {keys words body relation e into acting : List ℕ} {m vertices : ℕ} → NumberedChart keys words m vertices body relation e → Into relation keys m into → Acting keys m acting → StepTables into acting words e relation
+step-tables {keys} {e = e} {m = m} N I A = record { formed = well-formed e (N .passes); keys = keys; m = m; numbered = N .numbered; spread = I; acts = A }
+
 -- what the tables let pass does pass, of every chart whose steps are so numbered
-module _ {into acting words users body e relation : List ℕ} {rows used : ℕ} (B : Bytes body) (W : WellFormed body) (T : StepTables into acting words e relation) (few : rows ≤ 128) (U : Table 64 (UsedBy words rows) users) (all : Used words rows used) where
-  cleared-passes : (u v : ℕ) → u < rows → Cleared into acting users used body u v → Passes e body relation u v
-  cleared-passes u v l C = record { c43 = C .ends; c44 = forth; c45 = back }
+module _ {into acting words body e relation : List ℕ} (B : Bytes body) (W : WellFormed body) (T : StepTables into acting words e relation) where
+  clear-passes : {u v : ℕ} → Clear into acting words body u v → Passes e body relation u v
+  clear-passes {u} {v} C = record { c43 = C .ends; c44 = forth; c45 = back }
     where
       forth : AllMatched (indexedOf e) (indexedOf body) (Related relation) u v
       forth i h f =
           let (k, low, a, t, on) = step-of T u i h f in
-          let (j, g, p, M) = C .forth k (all u k l on) (U .exactly k u (omega (arith, T .numbered .coded .few)) (omega arith) .1 (l, on)) in
+          let (j, g, p, M) = C .forth k on in
           let (q, r) = is-matched B W T i k j a t g M in
           (j, g, p, q, r)
 
       back : AllMatched (indexedOf body) (indexedOf e) (converse (Related relation)) v u
       back j h f =
-          let (k, M, r) = C .back j h f in
-          let low = match-low B W T j k h M in
-          let (i, g, p, a, t) = at-step T u k (U .exactly k u (omega (arith, T .numbered .coded .few)) (r .below) .0 r .1) in
+          let (k, on, M) = C .back j h f in
+          let (i, g, p, a, t) = at-step T u k on in
           let (q, s) = is-matched B W T i k j a t h M in
           (i, g, p, sym q, s)
 
-  pub sought : {columns table : List ℕ} → verticesOf e ≡ rows → Table 128 (converse (Related relation)) columns → Gathered columns into acting users used body (verticesOf body) table → RelationFits e body relation → Sought into acting words table body e relation
-  sought q C G F = record {
-    tables = T;
-    fits = F;
-    given = λ u v m t. C .exactly v u (omega (arith, W .header .vertices-high)) (t .below) .0 (G .given u v m t);
-    others = λ u v r n.
-        let (l, m) = F .inside u v r in
-        cleared-passes u v (omega arith) (G .others u v m (C .exactly v u (omega (arith, W .header .vertices-high)) (omega arith) .1 r) n);
-  }
+  -- where no vertex is a suspect
+  pub all-clear : {suspects : Set} → Unsuspected into acting words body relation suspects → Empty suspects → Related relation (startOf e) (startOf body) → CheckedAnswer e body relation Passed
+  all-clear S f z = (related, all-pass z (λ u v r. clear-passes (S u v r (f v))), refl)
+
+  module _ {users : List ℕ} {rows used : ℕ} (few : rows ≤ 128) (U : Table 64 (UsedBy words rows) users) (all : Used words rows used) where
+    cleared-clear : {u v : ℕ} → u < rows → Cleared into acting users used body u v → Clear into acting words body u v
+    cleared-clear {u} {v} l C = record {
+      ends = C .ends;
+      forth = λ k on. let n = T .numbered .coded .known u k on in C .forth k (all u k l on) (U .exactly k u (omega (arith, T .numbered .coded .few)) (omega arith) .1 (l, on));
+      back = λ i h f.
+          let (k, M, r) = C .back i h f in
+          let n = match-low B W T i k h M in
+          (k, U .exactly k u (omega (arith, T .numbered .coded .few)) (r .below) .0 r .1, M);
+    }
+
+    pub sought : {columns table : List ℕ} {suspects : Set} → verticesOf e ≡ rows → Unsuspected into acting words body relation suspects → Table 128 (Column relation suspects) columns → Gathered columns into acting users used body (verticesOf body) table → RelationFits e body relation → Sought into acting words table body e relation
+    sought {suspects = suspects} q S C G F = record {
+      tables = T;
+      fits = F;
+      given = λ u v m t. C .exactly v u (omega (arith, W .header .vertices-high)) (t .below) .0 (G .given u v m t) .1;
+      others = λ u v r n.
+          let (l, m) = F .inside u v r in
+          by-cases (has? suspects v)
+          (λ h. clear-passes (cleared-clear (omega arith) (G .others u v m (C .exactly v u (omega (arith, W .header .vertices-high)) (omega arith) .1 (h, r)) n)))
+          (λ h. clear-passes (S u v r h));
+    }

@@ -6,5 +6,7 @@ pub mod Openings
 pub mod TableLaws
 pub mod PlaceLaws
 pub mod StepLaws
+pub mod ClassLaws
+pub mod SuspectLaws
 pub mod ClearLaws
 pub mod PairLaws

@@ -15,12 +15,14 @@ use Rattle.report.specs.declared.Place.the-variants.{RelationLength, PairNoVert
 use Rattle.report.specs.declared.Stage.{Stage}
 use Rattle.report.specs.declared.Stage.the-variants.{Passed, Refused}
 use Rattle.chart.proofs.Checks.{well-formed}
-use Rattle.chart.specs.Bodies.{verticesOf, startOf}
+use Rattle.chart.specs.Bodies.{verticesOf, startOf, WellFormed}
 use Rattle.chart.specs.Leaving.{whenPassed}
 use Rattle.bisimulation.specs.Relations.{relatedTest, strayBitTest, relationStage, relationOutcomeOf, relationOf, openingOf}
 use Rattle.bisimulation.specs.Answers.{Related, StrayBit, StrayAnswer, RelationFits, SomeChart, PairsAnswer}
+use Rattle.bisimulation.specs.Classes.{Stepped}
 use Rattle.bisimulation.proofs.PairChecks.{passed-refused}
 use Rattle.bisimulation.proofs.Relations.{one-first, fits-of, strays-found}
+use Rattle.bisimulation.proofs.StepLaws.{numbered-step}
 
 -- THE CODE
 module _ (vertices start : ℕ) (b relation : List ℕ) where
@@ -122,3 +124,22 @@ pairs-one (e, N) S T = S e N ∙ sym (T e N)
 -- and the relation has a row for each of its vertices
 pub rows-fit : {keys words : List ℕ} {m vertices : ℕ} {body relation : List ℕ} → SomeChart keys words m vertices body relation → (length relation ≡ 16 * vertices) × (vertices ≤ 128)
 rows-fit (e, N) = let h = well-formed e (N .passes) .header .vertices-high in (omega (arith, N .fits .whole, N .size), omega (arith, h, N .size))
+
+-- its steps lead to rows, and row 0 has none
+pub stepped : {keys words : List ℕ} {m vertices : ℕ} {body relation : List ℕ} → SomeChart keys words m vertices body relation → Stepped keys words m vertices relation
+stepped {keys} {words} {m} {vertices} (e, N) = record {
+  coded = N .numbered .coded;
+  targets = λ k l.
+      let (u, on) = N .numbered .coded .used k l in
+      let (i, h, f, a, t) = numbered-step (N .numbered) u k on in
+      omega (arith, W .each i h .to-high, N .size);
+  end = λ k on.
+      let (i, h, f, a, t) = numbered-step (N .numbered) 0 k on in
+      omega (arith, W .each i h .from-low);
+  whole = rows-fit (e, N) .0;
+  few = rows-fit (e, N) .1;
+  some = omega (arith, W .header .vertices-low, N .size);
+}
+  where
+    W : WellFormed e
+    W = well-formed e (N .passes)

@@ -14,9 +14,9 @@ use Rattle.bits.specs.Bits.{Bytes}
 use Rattle.bits.specs.declared.sets.Set.{Set}
 use Rattle.bits.specs.First.{First}
 use Rattle.bits.specs.Words.{On, LowestOn}
-use Rattle.bits.specs.Sets.{Has, emptySet, Members, Union}
-use Rattle.bits.specs.Tables.{rowOf, HasRow, InFirst}
-use Rattle.bits.proofs.Members.{zero-off, none, has?}
+use Rattle.bits.specs.Sets.{Has, Members}
+use Rattle.bits.specs.Tables.{InFirst}
+use Rattle.bits.proofs.Members.{zero-off}
 use Rattle.chart.specs.Bodies.{countOf, fromOf, actionOf, toOf, WellFormed}
 use Rattle.chart.specs.Leaving.{Begins}
 use Rattle.chart.proofs.Order.{at-mid, between}
@@ -53,17 +53,17 @@ pub suspects-clear : {into acting words table body e relation : List ℕ} {set :
 suspects-clear {relation = relation} S M u n v r = S .others u v r (λ h. n (M .exactly u (h .below) .1 (v, related-column relation u v r, h)))
 
 -- a transition that is not alone has a step that matches it
-met-by : (into acting body : List ℕ) (steps i : ℕ) → ¬ Alone into acting body steps i → (k : ℕ) × On steps k × Match into acting body i k
-met-by into acting body steps i f = ⊎-elim (λ (k, l, h). (k, h .0, h .1)) (λ n. absurd (f (λ k on M. n k (M .0 .below) (on, M)))) (look-below {P = λ (k : ℕ). On steps k × Match into acting body i k} meets? 128)
+met-by : (into acting body : List ℕ) (steps i : ℕ) → ((k : ℕ) → On steps k → k < 64) → ¬ Alone into acting body steps i → (k : ℕ) × On steps k × Match into acting body i k
+met-by into acting body steps i low f = ⊎-elim (λ (k, l, h). (k, h .0, h .1)) (λ n. absurd (f (λ k on M. n k (low k on) (on, M)))) (look-below {P = λ (k : ℕ). On steps k × Match into acting body i k} meets? 64)
   where
     meets? : (k : ℕ) → Dec (On steps k × Match into acting body i k)
     meets? k = elim (ℕ-discrete (steps / 2 ^ k % 2) 1) [ yes on ↦ second on | no off ↦ no (λ h. off (h .0)) ]
       where
-        third : On steps k → HasRow into (toOf body i) k → Dec (On steps k × Match into acting body i k)
+        third : On steps k → On (getD into (toOf body i) 0) k → Dec (On steps k × Match into acting body i k)
         third on h = elim (ℕ-discrete (getD acting (actionOf body i) 0 / 2 ^ k % 2) 1) [ yes a ↦ yes (on, (h, a)) | no a ↦ no (λ g. a (g .1 .1)) ]
 
         second : On steps k → Dec (On steps k × Match into acting body i k)
-        second on = elim (has? (rowOf into (toOf body i)) k) [ yes h ↦ third on h | no h ↦ no (λ g. h (g .1 .0)) ]
+        second on = elim (ℕ-discrete (getD into (toOf body i) 0 / 2 ^ k % 2) 1) [ yes h ↦ third on h | no h ↦ no (λ g. h (g .1 .0)) ]
 
 module _ {into acting words e relation body begins : List ℕ} (B : Bytes body) (W : WellFormed body) (R : Begins body begins) (T : StepTables into acting words e relation) (u : ℕ) {v : ℕ} (low : v < 128) where
   -- the transitions of v stand from its entry up to the next
@@ -112,10 +112,13 @@ module _ {into acting words e relation body begins : List ℕ} (B : Bytes body) 
         let (q, c) = is-matched B W T i k j a t h M in
         (i, g, p, sym q, c)
 
+    low-step : (k : ℕ) → On (getD words u 0) k → k < 64
+    low-step k on = omega (arith, T .numbered .coded .known u k on, T .numbered .coded .few)
+
     pub none-alone : getD begins (v + 1) 0 ≤ r → AllMatched (indexedOf body) (indexedOf e) (converse (Related relation)) v u
     none-alone l j h f =
         let (p, q) = here j h f in
-        let (k, on, M) = met-by into acting body (getD words u 0) j (A .before j p (omega arith)) in
+        let (k, on, M) = met-by into acting body (getD words u 0) j low-step (A .before j p (omega arith)) in
         met j h k on M
 
     pub least-alone : r < getD begins (v + 1) 0 → Least (Unmatched (indexedOf body) (indexedOf e) (converse (Related relation)) v u) r
@@ -123,5 +126,5 @@ module _ {into acting words e relation body begins : List ℕ} (B : Bytes body) 
         let (h, f) = leaves r (A .from) l in
         record {
           holds = (h, f, λ (i, g, p, q, c). let (k, b, a, t, on) = step-of T u i g p in A .holds l k on (is-match B W T i k r a t h b (sym q) c));
-          lowest = λ j b (g, p, n). let (k, on, M) = met-by into acting body (getD words u 0) j (A .before j (here j g p .0) b) in n (met j g k on M);
+          lowest = λ j b (g, p, n). let (k, on, M) = met-by into acting body (getD words u 0) j low-step (A .before j (here j g p .0) b) in n (met j g k on M);
         }

@@ -1,11 +1,12 @@
 -- The rows of a relation as parts of its bytes: a bit stands only in a row that is there, and in one of its 128 columns.
-use mathlib.Core.Path.{_≡_, sym, _∙_, subst}
+use mathlib.Core.Path.{_≡_, refl, sym, _∙_, subst}
 use mathlib.Core.Logic.{_↔_, by-cases}
-use mathlib.Core.Bool.{Bool, true, false, false≢true}
+use mathlib.Core.Bool.{Bool, true, false, _&&_, false≢true}
 use mathlib.Core.List.{List}
 use Prim.Native.Nat.{ℕ, _+_, _-_, _*_, _/_, _%_, _≤_, _<_}
 use native.Mathlib.Decide.{decLt}
 use native.Mathlib.Omega.{arith}
+use lib.Dec.{eqb}
 use lib.ListN.{length, getD, drop, length-take, length-drop}
 use lib.Seq.{getD-take, getD-drop}
 use borrow.Author.Tests.{eq-eqb, eqb-true}
@@ -15,6 +16,7 @@ use Rattle.bits.specs.Sets.{Has, Members}
 use Rattle.bits.proofs.Powers.{has-past}
 use Rattle.bisimulation.specs.Relations.{rowBytes, relatedTest}
 use Rattle.bisimulation.specs.Answers.{Related}
+use Rattle.bisimulation.specs.Suspects.{SameRow}
 
 -- a bit stands in a byte of its row
 bit-in : (relation : List ℕ) (u v : ℕ) → Related relation u v → v / 8 < length (rowBytes relation u)
@@ -43,3 +45,21 @@ row-members relation u M = record { exactly = λ w l. let R = related-on relatio
 
 pub has-related : (relation : List ℕ) (u : ℕ) {r : Set} → Members (Related relation u) r → (w : ℕ) → Has r w ↔ Related relation u w
 has-related relation u M w = ((λ h. M .exactly w (h .below) .0 h), (λ r. M .exactly w (related-column relation u w r) .1 r))
+
+-- `same_row`: sets with the same words
+pub both-same : (p q r s : ℕ) → (eqb p q && eqb r s) ≡ true → (p ≡ q) × (r ≡ s)
+both-same p q r s h = go (eqb p q) (eqb r s) refl refl h
+  where
+    go : (x y : Bool) → eqb p q ≡ x → eqb r s ≡ y → (x && y) ≡ true → (p ≡ q) × (r ≡ s)
+    go true true e f h = (eqb-true p q e, eqb-true r s f)
+    go true false e f h = absurd (false≢true h)
+    go false y e f h = absurd (false≢true h)
+
+same-has : (s t : Set) → s .lo ≡ t .lo → s .hi ≡ t .hi → (w : ℕ) → Has s w → Has t w
+same-has s t e f w h = record { below = h .below; on = rw (e, f) at (h .on) }
+
+pub same-sets : (relation : List ℕ) (a b : ℕ) {s t : Set} → Members (Related relation a) s → Members (Related relation b) t → s .lo ≡ t .lo → s .hi ≡ t .hi → SameRow relation a b
+same-sets relation a b {s} {t} S T e f w l = (
+  (λ r. T .exactly w l .0 (same-has s t e f w (S .exactly w l .1 r))),
+  (λ r. S .exactly w l .0 (same-has t s (sym e) (sym f) w (T .exactly w l .1 r))),
+)

@@ -7,18 +7,23 @@ use lib.ListN.{getD}
 use Rattle.bits.specs.Bits.{Bytes}
 use Rattle.bits.specs.Words.{On}
 use Rattle.chart.specs.Bodies.{countOf, fromOf, actionOf, toOf, WellFormed}
+use Rattle.chart.specs.Numbered.{Numbered}
 use Rattle.bisimulation.specs.Answers.{Related}
 use Rattle.bisimulation.specs.Suspects.{Match}
 use Rattle.bisimulation.specs.Pairs.{StepTables}
+
+-- the transition of a vertex for a step that it has
+pub numbered-step : {e keys words : List ℕ} {m : ℕ} → Numbered e keys words m → (u k : ℕ) → On (getD words u 0) k → (i : ℕ) × (i < countOf e) × (fromOf e i ≡ u) × (getD keys k 0 / 256 ≡ actionOf e i) × (getD keys k 0 % 256 ≡ toOf e i)
+numbered-step {keys = keys} N u k on =
+    let a = N .exactly u (getD keys k 0 / 256) (getD keys k 0 % 256) .1 (k, N .coded .known u k on, refl, refl, on) in
+    (a .at, a .within, a .leaves, sym (a .holds .is), sym (a .enters))
 
 module _ {into acting words e relation : List ℕ} (T : StepTables into acting words e relation) where
   pub step-of : (u i : ℕ) → i < countOf e → fromOf e i ≡ u → (k : ℕ) × (k < T .m) × (getD (T .keys) k 0 / 256 ≡ actionOf e i) × (getD (T .keys) k 0 % 256 ≡ toOf e i) × On (getD words u 0) k
   step-of u i h f = T .numbered .exactly u (actionOf e i) (toOf e i) .0 (record { at = i; within = h; leaves = f; enters = refl; holds = record { is = refl } })
 
   pub at-step : (u k : ℕ) → On (getD words u 0) k → (i : ℕ) × (i < countOf e) × (fromOf e i ≡ u) × (getD (T .keys) k 0 / 256 ≡ actionOf e i) × (getD (T .keys) k 0 % 256 ≡ toOf e i)
-  at-step u k on =
-      let a = T .numbered .exactly u (getD (T .keys) k 0 / 256) (getD (T .keys) k 0 % 256) .1 (k, T .numbered .coded .known u k on, refl, refl, on) in
-      (a .at, a .within, a .leaves, sym (a .holds .is), sym (a .enters))
+  at-step = numbered-step (T .numbered)
 
 module _ {into acting words e relation body : List ℕ} (B : Bytes body) (W : WellFormed body) (T : StepTables into acting words e relation) where
   -- a step that matches a transition of the body has its action and a related target
@@ -27,7 +32,7 @@ module _ {into acting words e relation body : List ℕ} (B : Bytes body) (W : We
       let (l, e) = T .acts .exactly (actionOf body j) k (B (4 * j + 4 + 1)) .0 q in
       let t = W .each j h .to-high in
       let s = W .header .vertices-high in
-      (l, e, T .spread .exactly (toOf body j) k (omega arith) (p .below) .0 p .1)
+      (l, e, T .spread .exactly (toOf body j) k (omega arith) .0 p .1)
 
   pub match-low : (j k : ℕ) → j < countOf body → Match into acting body j k → k < T .m
   match-low j k h M = matched-step j k h M .0
@@ -40,6 +45,4 @@ module _ {into acting words e relation body : List ℕ} (B : Bytes body) (W : We
     is-match l q r =
         let w = W .each j h .to-high in
         let s = W .header .vertices-high in
-        let f = T .numbered .coded .few in
-        let m : k < 128 = omega arith in
-        (T .spread .exactly (toOf body j) k (omega arith) m .1 (l, subst (λ (x : ℕ). Related relation x (toOf body j)) (sym t) r), T .acts .exactly (actionOf body j) k (B (4 * j + 4 + 1)) .1 (l, a ∙ sym q))
+        (T .spread .exactly (toOf body j) k (omega arith) .1 (l, subst (λ (x : ℕ). Related relation x (toOf body j)) (sym t) r), T .acts .exactly (actionOf body j) k (B (4 * j + 4 + 1)) .1 (l, a ∙ sym q))

@@ -5,12 +5,12 @@ use Prim.Native.Nat.{ℕ, _<_}
 use lib.ListN.{length}
 use Rattle.report.specs.declared.Stage.{Stage}
 use Rattle.bits.specs.Words.{On}
-use Rattle.bits.specs.Tables.{HasRow, Table}
+use Rattle.bits.specs.Tables.{HasRow}
 use Rattle.chart.specs.Bodies.{verticesOf, startOf, WellFormed}
 use Rattle.chart.specs.Leaving.{Begins}
 use Rattle.chart.specs.Numbered.{Numbered}
 use Rattle.bisimulation.specs.Answers.{Related, RelationFits, Passes, PairAnswer, RowAnswer, CheckedAnswer}
-use Rattle.bisimulation.specs.Suspects.{KeyInto, Acting, Tabled, Match}
+use Rattle.bisimulation.specs.Suspects.{Into, Acting, Tabled, Match}
 
 -- what the code reads: the tables, and where the transitions of each vertex begin
 pub record Ready (into acting words body begins : List ℕ) : Type 0 where
@@ -28,7 +28,7 @@ pub record StepTables (into acting words e relation : List ℕ) : Type 0 where
   pub keys : List ℕ
   pub m : ℕ
   pub numbered : Numbered e keys words m
-  pub spread : Table 128 (KeyInto relation keys m) into
+  pub spread : Into relation keys m into
   pub acts : Acting keys m acting
 
 -- and the table's sets have only related pairs, and each that 43, 44 or 45 refuses

@@ -13,64 +13,100 @@ ghost use Prim.Native.Nat.{ℕ, _≤_, _<_};
 ghost use lib.ListN.{length};
 ghost use Rattle.bits.specs.Words.{On};
 ghost use Rattle.bits.specs.Sets.{Members};
+ghost use Rattle.bits.specs.Tables.{InSome};
 ghost use Rattle.chart.specs.Bodies.{verticesOf, countOf};
 ghost use Rattle.chart.specs.Leaving.{Begins};
-ghost use Rattle.bisimulation.specs.Suspects.{Tabled, Match, Walked, SameEnd, Refusable, Gathered};
+ghost use Rattle.bisimulation.specs.Suspects.{Tabled, Match, Knows, Walked, SameEnd, Refusable, Gathered};
 
-// Steps, and rows that have a step for each transition.
+// Steps, and the rows with one of them.
+pub struct Known {
+    pub steps: u64,
+    pub rows: Set,
+}
+
+// Steps, rows that have a step for each transition, and what is known of the last steps.
 pub struct Matches {
     pub matched: u64,
     pub able: Set,
+    pub known: Known,
 }
 
-// The steps, all below 64, that match transition i: its action, and a target that is related to its target.
-pub(crate) fn matching(into: &[u64; 256], acting: &[u64; 256], body: &[u8], i: usize) -> u64
+// Rows that may be refused, and what is known.
+pub struct Refusals {
+    pub rows: Set,
+    pub known: Known,
+}
+
+// The steps that match transition i: its action, and a target that is related to its target.
+pub(crate) fn matching(into: &[u64; 128], acting: &[u64; 256], body: &[u8], i: usize) -> u64
     requires { ⌜ Tabled (now into) (now acting) (now body) × (i < countOf (now body)) ⌝ }
     ensures { λ r. ⌜ ((k : ℕ) → On r k ↔ Match (now (into .entry)) (now (acting .entry)) (now (body .entry)) i k) ⌝ }
 {
     let p = 4 * i + 4;
-    bit_and(row(into, byte(body, p + 2)).lo, acting[byte(body, p + 1)])
+    bit_and(into[byte(body, p + 2)], acting[byte(body, p + 1)])
+}
+
+// The rows with one of the steps, as they are known or found anew.
+fn rows_with(users: &[u64; 128], known: Known, steps: u64) -> Set
+    requires { ⌜ (length (now users) ≡ 128) × Knows (now users) known ⌝ }
+    ensures { λ r. ⌜ Members (InSome (now (users .entry)) steps) r ⌝ }
+{
+    let rows = known.rows;
+    if known.steps == steps {
+        return rows;
+    }
+    united(users, steps)
 }
 
 // Of the transitions from a to b, the steps that match one of them, and the rows of the set that have a step for each
 // of them. Neighbours often have the same steps, and then nothing changes.
 fn walk(
-    into: &[u64; 256],
+    into: &[u64; 128],
     acting: &[u64; 256],
     users: &[u64; 128],
     body: &[u8],
     a: usize,
     b: usize,
     set: Set,
+    known: Known,
 ) -> Matches
     requires { ⌜ Tabled (now into) (now acting) (now body)
         × (length (now users) ≡ 128)
         × (a ≤ b)
-        × (b ≤ countOf (now body)) ⌝ }
+        × (b ≤ countOf (now body))
+        × Knows (now users) known ⌝ }
     ensures { λ r. ⌜ Walked (now (into .entry)) (now (acting .entry)) (now (users .entry)) (now (body .entry))
-        a b set r ⌝ }
+        a b set r × Knows (now (users .entry)) (r .known) ⌝ }
 {
     if a >= b {
         return Matches {
             matched: 0,
             able: set,
+            known,
         };
     }
     let first = matching(into, acting, body, a);
+    let mut rows = rows_with(users, known, first);
     let mut matched = first;
     let mut last = first;
-    let mut able = set.intersection(united(users, first));
+    let mut able = set.intersection(rows);
     let mut i = a + 1;
     while i < b {
         let next = matching(into, acting, body, i);
         if next != last {
-            able = able.intersection(united(users, next));
+            rows = united(users, next);
+            able = able.intersection(rows);
             matched = bit_or(matched, next);
             last = next;
         }
         i += 1;
     }
-    Matches { matched, able }
+    let latest = Known { steps: last, rows };
+    Matches {
+        matched,
+        able,
+        known: latest,
+    }
 }
 
 // 43: of a set, row 0 for vertex 0, and every other row for every other vertex.
@@ -85,7 +121,7 @@ fn same_ends(v: usize, set: Set) -> Set
 
 // The rows of the set that 43, 44 or 45 may refuse with v.
 fn refusable(
-    into: &[u64; 256],
+    into: &[u64; 128],
     acting: &[u64; 256],
     users: &[u64; 128],
     used: u64,
@@ -93,16 +129,18 @@ fn refusable(
     begins: &[usize; 129],
     v: usize,
     set: Set,
-) -> Set
+    known: Known,
+) -> Refusals
     requires { ⌜ Tabled (now into) (now acting) (now body)
         × (length (now users) ≡ 128)
         × Begins (now body) (now begins)
-        × (v < 128) ⌝ }
+        × (v < 128)
+        × Knows (now users) known ⌝ }
     ensures { λ r. ⌜ Refusable (now (into .entry)) (now (acting .entry)) (now (users .entry)) used
-        (now (body .entry)) v set r ⌝ }
+        (now (body .entry)) v set (r .rows) × Knows (now (users .entry)) (r .known) ⌝ }
 {
     if set.is_empty() {
-        return set;
+        return Refusals { rows: set, known };
     }
     let walked = walk(
         into,
@@ -112,16 +150,23 @@ fn refusable(
         begins[v],
         begins[v + 1],
         same_ends(v, set),
+        known,
     );
     let able = walked.able;
+    let latest = walked.known;
     let unmatched = united(users, bit_and_not(used, walked.matched));
-    set.difference(able.difference(unmatched))
+    let rows = set.difference(able.difference(unmatched));
+    Refusals {
+        rows,
+        known: latest,
+    }
 }
 
-// For each chart vertex the rows that 43, 44 or 45 may refuse with it.
+// For each chart vertex the rows that 43, 44 or 45 may refuse with it. Vertices often have the same steps, and what is
+// known of them goes from one to the next.
 pub(crate) fn gather(
     columns: &[u64; 256],
-    into: &[u64; 256],
+    into: &[u64; 128],
     acting: &[u64; 256],
     users: &[u64; 128],
     used: u64,
@@ -136,11 +181,27 @@ pub(crate) fn gather(
         (now (body .entry)) (verticesOf (now (body .entry))) r ⌝ }
 {
     let n = byte(body, 0);
+    let mut known = Known {
+        steps: 0,
+        rows: Set::empty(),
+    };
     let mut table = [0u64; 256];
     let mut v: usize = 0;
     while v < n {
-        let more = refusable(into, acting, users, used, body, begins, v, row(columns, v));
-        put_row(&mut table, v, more);
+        let found = refusable(
+            into,
+            acting,
+            users,
+            used,
+            body,
+            begins,
+            v,
+            row(columns, v),
+            known,
+        );
+        let rows = found.rows;
+        known = found.known;
+        put_row(&mut table, v, rows);
         v += 1;
     }
     table

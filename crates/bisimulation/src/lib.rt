@@ -1,8 +1,10 @@
 // Relations between the expression's chart and the file's chart: the checks 40 to 45.
+mod classes;
 mod clearing;
 mod pairs;
 mod places;
 mod rows;
+mod suspects;
 mod tables;
 
 use bits::Set;
@@ -12,15 +14,15 @@ use pairs::search;
 use report::Place;
 use report::Stage;
 use rows::read_row;
-use tables::acting;
+use suspects::suspects;
 use tables::columns;
-use tables::spread_rows;
 use tables::used;
 use tables::users;
 ghost use mathlib.Core.Path.{_≡_};
 ghost use Prim.Native.Nat.{_*_, _≤_, _<_};
 ghost use lib.ListN.{length};
 ghost use Rattle.chart.specs.Checks.{checkOf};
+ghost use Rattle.chart.specs.Leaving.{Begins};
 ghost use Rattle.bisimulation.specs.Relations.{openingOf};
 ghost use Rattle.bisimulation.specs.Answers.{StrayAnswer, SomeChart, PairsAnswer};
 
@@ -29,7 +31,7 @@ fn strays(body: &[u8], relation: &[u8], rows: usize) -> Stage
     requires { ⌜ (checkOf (now body) ≡ Stage.Passed) × (length (now relation) ≡ 16 * rows) ⌝ }
     ensures { λ r. ⌜ StrayAnswer (now (body .entry)) (now (relation .entry)) r ⌝ }
 {
-    let inside = Set::between(0, byte(body, 0));
+    let inside = Set::below(byte(body, 0));
     let mut u: usize = 0;
     while u < rows {
         let v = read_row(relation, u).difference(inside).lowest();
@@ -60,26 +62,42 @@ pub fn opening(vertices: usize, start: usize, body: &[u8], relation: &[u8]) -> S
     Stage::Passed
 }
 
-// 43 to 45, where 40 to 42 pass. The expression's chart is given by the numbers of its steps: it is not written.
+// 43 to 45, where 40 to 42 pass: of all rows of a vertex at once, and where that does not do, of its rows one by one.
+// The expression's chart is given by the numbers of its steps: it is not written.
 pub fn check_pairs(
     keys: &[usize; 128],
     words: &[u64; 128],
     m: usize,
     vertices: usize,
     body: &[u8],
+    begins: &[usize; 129],
     relation: &[u8],
 ) -> Stage
     requires { ⌜ (checkOf (now body) ≡ Stage.Passed)
+        × Begins (now body) (now begins)
         × SomeChart (now keys) (now words) m vertices (now body) (now relation) ⌝ }
     ensures { λ r. ⌜ PairsAnswer (now (keys .entry)) (now (words .entry)) m vertices
         (now (body .entry)) (now (relation .entry)) r ⌝ }
 {
-    let columns = columns(relation, vertices);
-    let into = spread_rows(relation, vertices, keys, m);
-    let acting = acting(keys, m);
+    let mut into = [0u64; 128];
+    let mut acting = [0u64; 256];
+    let suspects = suspects(
+        keys,
+        words,
+        m,
+        vertices,
+        body,
+        begins,
+        relation,
+        &mut into,
+        &mut acting,
+    );
+    if suspects.is_empty() {
+        return Stage::Passed;
+    }
+    let columns = columns(relation, vertices, suspects);
     let users = users(words, vertices);
     let used = used(words, vertices);
-    let begins = chart::begins(body);
-    let table = gather(&columns, &into, &acting, &users, used, body, &begins);
-    search(&into, &acting, words, &table, body, &begins, vertices)
+    let table = gather(&columns, &into, &acting, &users, used, body, begins);
+    search(&into, &acting, words, &table, body, begins, vertices)
 }

@@ -25,7 +25,7 @@ ghost use Rattle.bits.specs.Tables.{InFirst};
 ghost use Rattle.bisimulation.specs.Pairs.{RelatedAnswer, PairSought, RowSought, AllSought};
 
 // The steps that match one of the transitions from a up to b.
-fn matched(into: &[u64; 256], acting: &[u64; 256], body: &[u8], a: usize, b: usize) -> u64
+fn matched(into: &[u64; 128], acting: &[u64; 256], body: &[u8], a: usize, b: usize) -> u64
     requires { ⌜ Tabled (now into) (now acting) (now body) × (a ≤ b) × (b ≤ countOf (now body)) ⌝ }
     ensures { λ r. ⌜ ((k : ℕ) → On r k
         ↔ MatchedIn (now (into .entry)) (now (acting .entry)) (now (body .entry)) a b k) ⌝ }
@@ -41,7 +41,7 @@ fn matched(into: &[u64; 256], acting: &[u64; 256], body: &[u8], a: usize, b: usi
 
 // Of the transitions from a up to b, the first that none of the steps matches; b where there is none.
 fn alone(
-    into: &[u64; 256],
+    into: &[u64; 128],
     acting: &[u64; 256],
     body: &[u8],
     a: usize,
@@ -63,7 +63,7 @@ fn alone(
 
 // 43, 44 and 45 of a related pair.
 fn check_pair(
-    into: &[u64; 256],
+    into: &[u64; 128],
     acting: &[u64; 256],
     words: &[u64; 128],
     body: &[u8],
@@ -94,7 +94,7 @@ fn check_pair(
 
 // 43, 44 and 45 of a pair, where row u is in the set of v: every other pair passes.
 fn suspect_pair(
-    into: &[u64; 256],
+    into: &[u64; 128],
     acting: &[u64; 256],
     words: &[u64; 128],
     table: &[u64; 256],
@@ -118,7 +118,7 @@ fn suspect_pair(
 
 // 43, 44 and 45 of the pairs of row u, by column.
 fn check_row(
-    into: &[u64; 256],
+    into: &[u64; 128],
     acting: &[u64; 256],
     words: &[u64; 128],
     table: &[u64; 256],
@@ -146,7 +146,7 @@ fn check_row(
 
 // 43, 44 and 45 of the pairs of row u, where it is in the set of the rows that may be refused.
 fn suspect_row(
-    into: &[u64; 256],
+    into: &[u64; 128],
     acting: &[u64; 256],
     words: &[u64; 128],
     table: &[u64; 256],
@@ -170,7 +170,7 @@ fn suspect_row(
 
 // 43, 44 and 45 of every pair, by row: also at vertices that nothing reaches.
 pub(crate) fn search(
-    into: &[u64; 256],
+    into: &[u64; 128],
     acting: &[u64; 256],
     words: &[u64; 128],
     table: &[u64; 256],

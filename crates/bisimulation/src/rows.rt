@@ -1,10 +1,13 @@
 // The rows of a relation as sets of chart vertices.
 use bits::Set;
 use bits::read_set;
+ghost use mathlib.Core.Path.{_≡_};
+ghost use mathlib.Core.Bool.{true};
 ghost use Prim.Native.Nat.{_+_, _*_, _≤_};
 ghost use lib.ListN.{length};
 ghost use Rattle.bits.specs.Sets.{Members};
 ghost use Rattle.bisimulation.specs.Answers.{Related};
+ghost use Rattle.bisimulation.specs.Suspects.{SameRow};
 
 // The vertices that expression vertex u is related to.
 pub(crate) fn read_row(relation: &[u8], u: usize) -> Set
@@ -12,4 +15,14 @@ pub(crate) fn read_row(relation: &[u8], u: usize) -> Set
     ensures { λ r. ⌜ Members (Related (now (relation .entry)) u) r ⌝ }
 {
     read_set(relation, 16 * u)
+}
+
+// Whether rows a and b are the same.
+pub(crate) fn same_row(relation: &[u8], a: usize, b: usize) -> bool
+    requires { ⌜ (16 * a + 16 ≤ length (now relation)) × (16 * b + 16 ≤ length (now relation)) ⌝ }
+    ensures { λ r. ⌜ (r ≡ true → SameRow (now (relation .entry)) a b) ⌝ }
+{
+    let row = read_row(relation, a);
+    let other = read_row(relation, b);
+    (row.lo == other.lo) & (row.hi == other.hi)
 }

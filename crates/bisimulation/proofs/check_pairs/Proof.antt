@@ -1,73 +1,86 @@
 use mathlib.Core.Path.{_∙_}
-use native.Mathlib.Omega.{arith}
 use Rattle.chart.proofs.Checks.{well-formed}
-use Rattle.bisimulation.specs.Pairs.{StepTables}
 use Rattle.bisimulation.proofs.Relations.{fitting, relation-of}
-use Rattle.bisimulation.proofs.Openings.{rows-fit}
-use Rattle.bisimulation.proofs.ClearLaws.{tabled, sought}
+use Rattle.bisimulation.proofs.Openings.{rows-fit, stepped}
+use Rattle.bisimulation.proofs.ClassLaws.{sorted-none}
+use Rattle.bisimulation.proofs.SuspectLaws.{into-none}
+use Rattle.bisimulation.proofs.ClearLaws.{step-tables, all-clear, sought}
 use borrow.Author.Needs.{needs}
+use native.Mathlib.Omega.{arith}
 use Rattle.bisimulation.proofs.check_pairs.Statement.{statement}
 use Rattle.bisimulation.proofs.check_pairs.Tie as tie
 
+suspects-requires : tie.Need-suspects-requires
+suspects-requires c κs =
+    let p = c .before .before .before .before .pre in (stepped (p .2), p .1, well-formed _ (p .0), into-none _ _, sorted-none _ 256)
+
+is-empty-requires : tie.Need-is-empty-requires
+is-empty-requires c κs = search needs
+
+returns : tie.Need-returns
+returns c =
+    let d = c .before .before .before .before .before .before in
+    λ e N.
+    let S = c .before .before .suspects .ensures in
+    let T = step-tables N (S .0) (S .1) in
+    let (o, h, s) = all-clear (λ j. omega (arith, d .shared-slice-known .given j)) (well-formed _ (d .before .pre .0)) T (S .2) (c .before .is-empty .ensures .0 (c .if1 .taken)) (N .starts) in
+    s ∙ relation-of (fitting (N .fits) h)
+
 columns-requires : tie.Need-columns-requires
-columns-requires c κs = rows-fit (c .before .before .pre .1)
-
-spread-rows-requires : tie.Need-spread-rows-requires
-spread-rows-requires c κs = search needs
-
-acting-requires : tie.Need-acting-requires
-acting-requires c κs = search needs
+columns-requires c κs = rows-fit (c .before .before .before .before .before .before .before .pre .2)
 
 users-requires : tie.Need-users-requires
 users-requires c κs =
-    let p = c .before .before .before .before .before .pre .1 in
+    let p = c .before .before .before .before .before .before .before .before .pre .2 in
     let C = p .1 .numbered .coded in
     (C .words-long, rows-fit p .1, λ u k on. omega (arith, C .known u k on, C .few))
 
 used-requires : tie.Need-used-requires
-used-requires c κs = let p = c .before .before .before .before .before .before .pre .1 in (p .1 .numbered .coded .words-long, rows-fit p .1)
-
-begins-requires : tie.Need-begins-requires
-begins-requires c κs = search needs
+used-requires c κs =
+    let p = c .before .before .before .before .before .before .before .before .before .pre .2 in (p .1 .numbered .coded .words-long, rows-fit p .1)
 
 gather-requires : tie.Need-gather-requires
 gather-requires c κs =
-    let p = c .before .before .before .before .before .before .before .before .before .before .before .before .before .pre in (
-      tabled (c .before .before .before .before .before .before .before .before .before .spread-rows .ensures .long) (c .before .before .before .before .before .before .before .before .acting .ensures) (p .1 .1 .numbered .coded .few) (well-formed _ (p .0)),
-      c .before .before .before .before .before .before .before .users .ensures .long,
-      c .before .before .before .before .before .begins .ensures,
-      c .before .before .before .before .before .before .before .before .before .before .columns .ensures .long,
-    )
+    let d = c .before .before .before .before .before in
+    let p = d .before .before .before .before .before .before .before .before .before .pre in
+    let S = d .before .before .before .before .suspects .ensures in
+    (record { into-long = S .0 .long; acting-long = S .1 .long; formed = well-formed _ (p .0) }, d .users .ensures .long, p .1, d .before .columns .ensures .long)
 
 search-requires : tie.Need-search-requires
 search-requires c κs =
-    let p = c .before .before .before .before .before .before .before .before .before .before .before .before .before .before .before .before .before .before .pre in
-    let T = tabled (c .before .before .before .before .before .before .before .before .before .before .before .before .before .before .spread-rows .ensures .long) (c .before .before .before .before .before .before .before .before .before .before .before .before .before .acting .ensures) (p .1 .1 .numbered .coded .few) (well-formed _ (p .0)) in
-    (record { tabled = T; words-long = p .1 .1 .numbered .coded .words-long; parted = c .before .before .before .before .before .before .before .before .before .before .begins .ensures }, c .before .before .before .before .gather .ensures .long, rows-fit (p .1) .1)
+    let d = c .before .before .before .before .before .before .before .before .before .before .before .before .before in
+    let p = d .before .before .before .before .before .pre in
+    let S = d .suspects .ensures in (
+      record {
+        tabled = record { into-long = S .0 .long; acting-long = S .1 .long; formed = well-formed _ (p .0) };
+        words-long = p .2 .1 .numbered .coded .words-long;
+        parted = p .1;
+      },
+      c .before .before .before .gather .ensures .long,
+      rows-fit (p .2) .1,
+    )
 
-returns : tie.Need-returns
-returns c = λ e N.
-    let k = c .before .before .before .before .before .before .before .before .before .before .before .before .before .before .before .before .before .before .before in
-    let p = k .pre in
-    let into = c .before .before .before .before .before .before .before .before .before .before .before .before .before .before .before .spread-rows in
-    let acting = c .before .before .before .before .before .before .before .before .before .before .before .before .before .before .acting in
-    let T : StepTables (into .result) (acting .result) (k .args .words .now) e (k .args .relation .now) =
-    record { formed = well-formed e (N .passes); keys = k .args .keys .now; m = k .args .m; numbered = N .numbered; spread = into .ensures; acts = acting .ensures } in
-    let used = c .before .before .before .before .before .before .before .before .before .before .before .before .used in
-    let S = sought {used = used .result} (λ j. omega (arith, c .before .before .before .before .before .before .before .before .before .before .before .before .before .before .before .before .before .before .shared-slice-known .given j)) (well-formed _ (p .0)) T (rows-fit (p .1) .1) (c .before .before .before .before .before .before .before .before .before .before .before .before .before .users .ensures) (used .ensures) (N .size) (c .before .before .before .before .before .before .before .before .before .before .before .before .before .before .before .before .columns .ensures) (c .before .before .before .before .before .gather .ensures) (N .fits) in
-    let (o, h, s) = c .search .ensures e (k .args .relation .now) S (N .size) (N .starts) in
+returns-2 : tie.Need-returns-2
+returns-2 c =
+    let d = c .before .before .before .before .before .before .before .before .before in
+    λ e N.
+    let p = d .before .before .before .before .before .before .before .before .before .before .pre in
+    let S = d .before .before .before .before .before .suspects .ensures in
+    let T = step-tables N (S .0) (S .1) in
+    let F = sought (λ j. omega (arith, d .before .before .before .before .before .before .before .before .before .shared-slice-known .given j)) (well-formed _ (p .0)) T (rows-fit (p .2) .1) (d .before .users .ensures) (d .used .ensures) (N .size) (S .2) (d .before .before .columns .ensures) (c .before .before .before .before .gather .ensures) (N .fits) in
+    let (o, h, s) = c .search .ensures e (d .before .before .before .before .before .before .before .before .before .before .args .relation .now) F (N .size) (N .starts) in
     s ∙ relation-of (fitting (N .fits) h)
 
 pub check-pairs-spec : {M : Type 1} → statement M
 check-pairs-spec =
     tie.close
     (tie.spec
+    suspects-requires
+    is-empty-requires
+    returns
     columns-requires
-    spread-rows-requires
-    acting-requires
     users-requires
     used-requires
-    begins-requires
     gather-requires
     search-requires
-    returns)
+    returns-2)

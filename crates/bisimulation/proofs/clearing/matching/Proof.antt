@@ -1,6 +1,6 @@
 use Rattle.bisimulation.proofs.ClearLaws.{match-read}
-use native.Mathlib.Omega.{arith}
 use borrow.Author.Needs.{needs}
+use native.Mathlib.Omega.{arith}
 use Rattle.bisimulation.proofs.clearing.matching.Statement.{statement}
 use Rattle.bisimulation.proofs.clearing.matching.Tie as tie
 
@@ -16,8 +16,12 @@ add-byte c = search needs
 byte-requires : tie.Need-byte-requires
 byte-requires c κs = search needs
 
-row-requires : tie.Need-row-requires
-row-requires c κs = let k = c .before .before .before in omega (arith, c .byte .ensures .0, k .pre .0 .formed .each (k .args .i) (k .pre .1) .to-high, k .pre .0 .formed .header .vertices-high, k .pre .0 .into-long)
+mul-bit-and : tie.Need-mul-bit-and
+mul-bit-and c = search needs
+
+element-copy-out-bit-and : tie.Need-element-copy-out-bit-and
+element-copy-out-bit-and c =
+    let k = c .before .before in omega (arith, c .byte .ensures .0, k .pre .0 .formed .each (k .args .i) (k .pre .1) .to-high, k .pre .0 .formed .header .vertices-high, k .pre .0 .into-long)
 
 add-byte-2 : tie.Need-add-byte-2
 add-byte-2 c = search needs
@@ -25,20 +29,19 @@ add-byte-2 c = search needs
 byte-requires-2 : tie.Need-byte-requires-2
 byte-requires-2 c κs = search needs
 
-mul-bit-and : tie.Need-mul-bit-and
-mul-bit-and c = search needs
+mul-bit-and-2 : tie.Need-mul-bit-and-2
+mul-bit-and-2 c = search needs
 
-element-copy-out-bit-and : tie.Need-element-copy-out-bit-and
-element-copy-out-bit-and c = search needs
+element-copy-out-bit-and-2 : tie.Need-element-copy-out-bit-and-2
+element-copy-out-bit-and-2 c = search needs
 
 bit-and-requires : tie.Need-bit-and-requires
 bit-and-requires c κs = search needs
 
 returns : tie.Need-returns
 returns c =
-    let d = c .before .before .before .before .before .before .before in
-    let k = d .args in
-    match-read (k .into .now) (k .acting .now) (k .body .now) (k .i) (c .bit-and .result) (λ j. d .pre .0 .low _ j (c .before .before .byte2 .ensures .1)) (c .before .before .before .before .byte .ensures .0) (c .before .before .byte2 .ensures .0) (c .before .before .before .row .ensures) (c .bit-and .ensures)
+    let d = c .before .before in
+    let k = d .before .before .before .before .args in match-read (k .into .now) (k .acting .now) (k .body .now) (k .i) (c .bit-and .result) (d .before .before .byte .ensures .0) (d .byte2 .ensures .0) (c .bit-and .ensures)
 
 pub matching-spec : {M : Type 1} → statement M
 matching-spec =
@@ -48,10 +51,11 @@ matching-spec =
     add-p
     add-byte
     byte-requires
-    row-requires
-    add-byte-2
-    byte-requires-2
     mul-bit-and
     element-copy-out-bit-and
+    add-byte-2
+    byte-requires-2
+    mul-bit-and-2
+    element-copy-out-bit-and-2
     bit-and-requires
     returns)

@@ -8,7 +8,7 @@ is-empty-requires : tie.Need-is-empty-requires
 is-empty-requires c κs = search needs
 
 returns : tie.Need-returns
-returns c = refuse-none _ _ _ _ _ _ (c .before .is-empty .ensures .0 (c .if1 .taken))
+returns c = (refuse-none _ _ _ _ _ _ (c .before .is-empty .ensures .0 (c .if1 .taken)), c .before .before .before .pre .4)
 
 mul-walk : tie.Need-mul-walk
 mul-walk c = search needs
@@ -32,7 +32,7 @@ walk-requires : tie.Need-walk-requires
 walk-requires c κs =
     let k = c .before .before .before .before .before .before in
     let p = k .pre in
-    (p .0, p .1, begin-order (p .2) (k .args .v) (p .3), begin-high (p .2) (k .args .v) (p .3))
+    (p .0, p .1, begin-order (p .2) (k .args .v) (p .3), begin-high (p .2) (k .args .v) (p .3), p .4)
 
 bit-and-not-requires : tie.Need-bit-and-not-requires
 bit-and-not-requires c κs = search needs
@@ -48,8 +48,10 @@ difference-requires-2 c κs = search needs
 
 returns-2 : tie.Need-returns-2
 returns-2 c =
-    let p = c .before .before .before .before .before .before .before .before .before .before .before .before .before .pre in
-    refuse-some (p .2) (p .3) (c .before .before .before .before .before .before .before .same-ends .ensures) (c .before .before .before .before .before .before .walk .ensures) _ (c .before .before .before .bit-and-not .ensures) (c .before .before .united .ensures) (c .before .difference .ensures) (c .difference2 .ensures)
+    let d = c .before .before .before .before .before .before .before in
+    let p = d .before .before .before .before .before .before .before .pre in
+    let W = d .walk .ensures in
+    (refuse-some (p .2) (p .3) (d .before .same-ends .ensures) (W .0) _ (c .before .before .before .bit-and-not .ensures) (c .before .before .united .ensures) (c .before .difference .ensures) (c .difference2 .ensures), W .1)
 
 pub refusable-spec : {M : Type 1} → statement M
 refusable-spec =

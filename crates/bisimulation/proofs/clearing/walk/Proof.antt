@@ -2,28 +2,32 @@ use mathlib.Core.Path.{_≡_}
 use mathlib.Core.Logic.{⊎-elim}
 use Prim.Native.Nat.{_-_, _≤_}
 use lib.ListN.{length}
-use borrow.Author.Needs.{needs}
-use native.Mathlib.Omega.{arith}
+use Rattle.bits.specs.Sets.{Members}
+use Rattle.bits.specs.Tables.{InSome}
 use Rattle.chart.specs.Bodies.{countOf}
 use Rattle.bisimulation.specs.Suspects.{Tabled}
 use Rattle.bisimulation.proofs.ClearLaws.{Walking, walk-none, walk-first, walk-same, walk-more, walk-all}
+use borrow.Author.Needs.{needs}
+use native.Mathlib.Omega.{arith}
 use Rattle.bisimulation.proofs.clearing.walk.Statement.{statement}
 use Rattle.bisimulation.proofs.clearing.walk.Tie as tie
 
 abbrev Inv-loop : tie.InvT-loop
-Inv-loop into acting users body a b first matched₀ last₀ able₀ i₀ matched last able i = Tabled into acting body × (length users ≡ 128) × (b ≤ countOf body) × (i ≤ b) × Walking into acting users body a able₀ matched last able i
+Inv-loop into acting users body a b first rows₀ matched₀ last₀ able₀ i₀ rows matched last able i =
+    Tabled into acting body × (length users ≡ 128) × (b ≤ countOf body) × (i ≤ b)
+    × Walking into acting users body a able₀ matched last able i × Members (InSome users last) rows
 
 abbrev μ-loop : tie.MeasureT-loop
-μ-loop into acting users body a b first matched₀ last₀ able₀ i₀ matched last able i = b - i
+μ-loop into acting users body a b first rows₀ matched₀ last₀ able₀ i₀ rows matched last able i = b - i
 
 returns : tie.Need-returns Inv-loop μ-loop
-returns c = walk-none _ _ _ _ _ (c .if1 .taken)
+returns c = (walk-none _ _ _ _ _ _ (c .if1 .taken), c .before .before .pre .4)
 
 matching-requires : tie.Need-matching-requires Inv-loop μ-loop
 matching-requires c κs = let p = c .before .before .pre in (p .0, omega (arith, p .3))
 
-united-requires : tie.Need-united-requires Inv-loop μ-loop
-united-requires c κs = search needs
+rows-with-requires : tie.Need-rows-with-requires Inv-loop μ-loop
+rows-with-requires c κs = let p = c .before .before .before .pre in (p .1, p .4)
 
 intersection-requires : tie.Need-intersection-requires Inv-loop μ-loop
 intersection-requires c κs = search needs
@@ -33,21 +37,22 @@ add-i c = search needs
 
 loop-holds : tie.Need-loop-holds Inv-loop μ-loop
 loop-holds c =
-    let k = c .before .before .before .before .before .before in
-    let p = k .pre in
-    (p .0, p .1, p .3, omega arith, walk-first (k .args .into .now) (k .args .acting .now) (k .args .users .now) (k .args .body .now) (k .args .a) (c .before .before .before .matching .result) (c .before .before .before .matching .ensures) (c .before .united .ensures) (c .intersection .ensures))
+    let d = c .before .before in
+    let k = d .before .before .before .args in
+    let p = d .before .before .before .pre in
+    (p .0, p .1, p .3, omega arith, walk-first (k .into .now) (k .acting .now) (k .users .now) (k .body .now) (k .a) (d .matching .result) (d .matching .ensures) (c .before .rows-with .ensures) (c .intersection .ensures), c .before .rows-with .ensures)
 
 matching-requires-2 : tie.Need-matching-requires-2 Inv-loop μ-loop
 matching-requires-2 c κs = let i = c .before .loop .inv in (i .0, omega arith)
 
-bit-or-requires : tie.Need-bit-or-requires Inv-loop μ-loop
-bit-or-requires c κs = search needs
-
-united-requires-2 : tie.Need-united-requires-2 Inv-loop μ-loop
-united-requires-2 c κs = omega (arith, c .before .before .before .before .loop .inv .1)
+united-requires : tie.Need-united-requires Inv-loop μ-loop
+united-requires c κs = omega (arith, c .before .before .before .before .loop .inv .1)
 
 intersection-requires-2 : tie.Need-intersection-requires-2 Inv-loop μ-loop
 intersection-requires-2 c κs = search needs
+
+bit-or-requires : tie.Need-bit-or-requires Inv-loop μ-loop
+bit-or-requires c κs = search needs
 
 add-i-2 : tie.Need-add-i-2 Inv-loop μ-loop
 add-i-2 c = search needs
@@ -64,13 +69,15 @@ loop-again c =
       i .2,
       omega arith,
       ⊎-elim
-          (λ (t, g, un, ib, ei, q₁, q₂, q₃). rw (q₁, q₂, q₃) (walk-more (i .4) (n .result) (n .ensures) (ei .result) (ei .ensures) (un .ensures) (ib .ensures)))
-          (λ (t, q₁, q₂, q₃). rw (q₁, q₂, q₃) (walk-same (i .4) (n .result) (n .ensures) (t .left)))
+          (λ (t, g, un, ib, ei, q₁, q₂, q₃, q₄). rw (q₂, q₃, q₄) (walk-more (i .4) (n .result) (n .ensures) (ei .result) (ei .ensures) (un .ensures) (ib .ensures)))
+          (λ (t, q₁, q₂, q₃, q₄). rw (q₂, q₃, q₄) (walk-same (i .4) (n .result) (n .ensures) (t .left)))
           (c .if2 .came),
+      ⊎-elim (λ (t, g, un, ib, ei, q₁, q₂, q₃, q₄). rw (q₁, q₃) (un .ensures)) (λ (t, q₁, q₂, q₃, q₄). rw (q₁, q₃) (i .5)) (c .if2 .came),
     )
 
 returns-2 : tie.Need-returns-2 Inv-loop μ-loop
-returns-2 c = let i = c .before .loop .inv in walk-all (i .4) (c .before .before .intersection .ensures) (c .loop-test .left) (i .3)
+returns-2 c =
+    let i = c .before .loop .inv in (walk-all (i .4) _ (c .before .before .intersection .ensures) (c .loop-test .left) (i .3), i .5)
 
 pub walk-spec : {M : Type 1} → statement M
 walk-spec =
@@ -80,12 +87,12 @@ walk-spec =
     μ-loop
     returns
     matching-requires
-    united-requires
+    rows-with-requires
     intersection-requires
     add-i
     loop-holds
     matching-requires-2
-    united-requires-2
+    united-requires
     intersection-requires-2
     bit-or-requires
     add-i-2
