@@ -1,9 +1,10 @@
 // Yard files: the four records [1-4], and the whole check.
 ghost use mathlib.Core.Path.{_≡_};
-ghost use Prim.Native.Nat.{_+_, _*_, _≤_, _<_};
+ghost use Prim.Native.Nat.{_+_, _≤_, _<_};
 ghost use lib.ListN.{length};
 ghost use Rattle.expression.specs.Body.{bodyOf};
 ghost use Rattle.bisimulation.specs.Relations.{relationOf};
+ghost use Rattle.chart.specs.Leaving.{Begins};
 ghost use Rattle.verdict.specs.Files.{recordStage, recordsOf, offsetOf, bodyAt};
 ghost use Rattle.verdict.specs.Verdicts.{verdictOf, BothPass, ComeToPairs};
 use bits::byte;
@@ -80,19 +81,25 @@ fn body(file: &[u8], k: usize) -> &[u8]
 }
 
 // The refusals 43 to 45, against the expression's chart, where 40 to 42 pass.
-fn check_numbered_pairs(nodes: &[u8], vertices: usize, chart: &[u8], relation: &[u8]) -> Stage
-    requires { ⌜ ComeToPairs (now nodes) vertices (now chart) (now relation) ⌝ }
+fn check_numbered_pairs(
+    nodes: &[u8],
+    vertices: usize,
+    chart: &[u8],
+    begins: &[usize; 129],
+    relation: &[u8],
+) -> Stage
+    requires { ⌜ ComeToPairs (now nodes) vertices (now chart) (now relation) × Begins (now chart) (now begins) ⌝ }
     ensures { λ r. ⌜ r ≡ relationOf (bodyOf (now (nodes .entry))) (now (chart .entry)) (now (relation .entry)) ⌝ }
 {
     let mut keys = [0usize; 128];
     let mut words = [0u64; 128];
     let m = expression::number_steps(nodes, &mut keys, &mut words);
-    bisimulation::check_pairs(&keys, &words, m, vertices, chart, relation)
+    bisimulation::check_pairs(&keys, &words, m, vertices, chart, begins, relation)
 }
 
 // The refusals 40 to 45, against the expression's chart, which is not written.
-fn check_relation(nodes: &[u8], chart: &[u8], relation: &[u8]) -> Stage
-    requires { ⌜ BothPass (now nodes) (now chart) ⌝ }
+fn check_relation(nodes: &[u8], chart: &[u8], begins: &[usize; 129], relation: &[u8]) -> Stage
+    requires { ⌜ BothPass (now nodes) (now chart) × Begins (now chart) (now begins) ⌝ }
     ensures { λ r. ⌜ r ≡ relationOf (bodyOf (now (nodes .entry))) (now (chart .entry)) (now (relation .entry)) ⌝ }
 {
     let n = nodes.len() / 4;
@@ -100,7 +107,7 @@ fn check_relation(nodes: &[u8], chart: &[u8], relation: &[u8]) -> Stage
     let Stage::Passed = stage else {
         return stage;
     };
-    check_numbered_pairs(nodes, n + 1, chart, relation)
+    check_numbered_pairs(nodes, n + 1, chart, begins, relation)
 }
 
 // A stage's refusal as the verdict's.
@@ -145,11 +152,12 @@ pub fn check(file: &[u8]) -> Verdict
     let Stage::Passed = stage else {
         return refusal(stage);
     };
-    let labelled = witness::check(chart, body(file, 2));
+    let begins = chart::begins(chart);
+    let labelled = witness::check(chart, body(file, 2), &begins);
     let Labelled::Passed(loops) = labelled else {
         return unlabelled(labelled);
     };
-    let stage = check_relation(nodes, chart, body(file, 3));
+    let stage = check_relation(nodes, chart, &begins, body(file, 3));
     let Stage::Passed = stage else {
         return refusal(stage);
     };

@@ -11,7 +11,7 @@ use Rattle.verdict.proofs.check.Statement.{statement}
 use Rattle.verdict.proofs.check.Tie as tie
 
 -- R, N, C, L, B: what the records, the nodes, the chart, the labelling and the relation answer; the chain of what is known goes
--- back from where the code stands: g after the relation, e the labelling, d the chart, b the nodes, a the records
+-- back from where the code stands: g after the relation, e the labelling, s where the transitions begin, d the chart, b the nodes, a the records
 records-requires : tie.Need-records-requires
 records-requires c κs = search needs
 
@@ -88,14 +88,18 @@ returns-3 c =
     let C = stage-in chart.checkOf (m .before .body2 .ensures) (m .check2 .ensures) h in
     c .refusal3 .ensures _ h ∙ sym (fails-refused _ (chart-fails R N C))
 
+begins-requires : tie.Need-begins-requires
+begins-requires d κs = sym (d .before .before .check2 .ensures) ∙ d .enum-told5 .given .1
+
 body-requires-3 : tie.Need-body-requires-3
-body-requires-3 d κs =
+body-requires-3 c κs =
+    let d = c .before in
     let a = d .before .before .before .before .before .before .before .before in
     let R = sym (a .before .before .records .ensures) ∙ a .enum-told .given .1 in
     (R, omega arith)
 
 check-requires-3 : tie.Need-check-requires-3
-check-requires-3 c κs = let d = c .before in sym (d .before .before .check2 .ensures) ∙ d .enum-told5 .given .1
+check-requires-3 c κs = let s = c .before .before in let d = s .before in (sym (d .before .before .check2 .ensures) ∙ d .enum-told5 .given .1, s .begins .ensures)
 
 enum-known-labelled : tie.Need-enum-known-labelled
 enum-known-labelled c = search needs
@@ -110,7 +114,7 @@ returns-4 : tie.Need-returns-4
 returns-4 c =
     let t = c .before in
     let w = t .before .before in
-    let d = w .before .before in
+    let d = w .before .before .before .before in
     let m = d .before .before in
     let b = m .before .before in
     let k = b .before .before in
@@ -119,23 +123,23 @@ returns-4 c =
     let N = stage-in expression.checkOf (k .before .body .ensures) (k .check .ensures) (b .enum-told3 .given .1) in
     let C = stage-in chart.checkOf (m .before .body2 .ensures) (m .check2 .ensures) (d .enum-told5 .given .1) in
     let h = t .enum-told7 .given .1 in
-    let L = labelling-in _ (m .before .body2 .ensures) (w .before .body3 .ensures) (w .check3 .ensures) h in
+    let L = labelling-in _ (m .before .body2 .ensures) (w .before .before .body3 .ensures) (w .check3 .ensures) h in
     c .unlabelled .ensures _ h ∙ sym (fails-refused _ (labels-fail R N C L))
 
 body-requires-4 : tie.Need-body-requires-4
-body-requires-4 e κs =
-    let d = e .before .before .before .before .before in
+body-requires-4 c κs =
+    let d = c .before .before .before .before .before .before .before .before in
     let a = d .before .before .before .before .before .before .before .before in
     let R = sym (a .before .before .records .ensures) ∙ a .enum-told .given .1 in
     (R, omega arith)
 
 check-relation-requires : tie.Need-check-relation-requires
 check-relation-requires c κs =
-    let e = c .before in
-    let d = e .before .before .before .before .before in
+    let s = c .before .before .before .before .before .before .before .before in
+    let d = s .before in
     let m = d .before .before in
     let b = m .before .before in
-    (sym (b .before .before .check .ensures) ∙ b .enum-told3 .given .1, sym (m .check2 .ensures) ∙ d .enum-told5 .given .1)
+    ((sym (b .before .before .check .ensures) ∙ b .enum-told3 .given .1, sym (m .check2 .ensures) ∙ d .enum-told5 .given .1), s .begins .ensures)
 
 enum-told-8 : tie.Need-enum-told-8
 enum-told-8 c = search needs
@@ -150,9 +154,9 @@ returns-5 : tie.Need-returns-5
 returns-5 c =
     let t = c .before in
     let r = t .before .before in
-    let e = r .before .before in
+    let e = r .before .before .before in
     let w = e .before .before .before in
-    let d = w .before .before in
+    let d = w .before .before .before .before in
     let m = d .before .before in
     let b = m .before .before in
     let k = b .before .before in
@@ -160,28 +164,28 @@ returns-5 c =
     let R = sym (a .before .before .records .ensures) ∙ a .enum-told .given .1 in
     let N = stage-in expression.checkOf (k .before .body .ensures) (k .check .ensures) (b .enum-told3 .given .1) in
     let C = stage-in chart.checkOf (m .before .body2 .ensures) (m .check2 .ensures) (d .enum-told5 .given .1) in
-    let L = labelling-in _ (m .before .body2 .ensures) (w .before .body3 .ensures) (w .check3 .ensures) (e .before .labelled .given .1) in
+    let L = labelling-in _ (m .before .body2 .ensures) (w .before .before .body3 .ensures) (w .check3 .ensures) (e .before .labelled .given .1) in
     let h = t .enum-told9 .given .1 in
     let B = relation-in _ (m .before .body2 .ensures) (k .before .body .ensures) (r .before .body4 .ensures) (r .check-relation .ensures) h in
     c .refusal4 .ensures _ h ∙ sym (fails-refused _ (relation-fails R N C L B))
 
 byte-requires : tie.Need-byte-requires
 byte-requires c κs =
-    let d = c .before .before .before .before .before .before .before .before .before in
+    let d = c .before .before .before .before .before .before .before .before .before .before .before .before in
     omega (arith, chart-long _ (sym (d .before .before .check2 .ensures) ∙ d .enum-told5 .given .1))
 
 count-requires : tie.Need-count-requires
 count-requires c κs =
-    let d = c .before .before .before .before .before .before .before .before .before .before in
+    let d = c .before .before .before .before .before .before .before .before .before .before .before .before .before in
     chart-long _ (sym (d .before .before .check2 .ensures) ∙ d .enum-told5 .given .1)
 
 returns-6 : tie.Need-returns-6
 returns-6 c =
     let g = c .before .before in
     let r = g .before .before in
-    let e = r .before .before in
+    let e = r .before .before .before in
     let w = e .before .before .before in
-    let d = w .before .before in
+    let d = w .before .before .before .before in
     let m = d .before .before in
     let b = m .before .before in
     let k = b .before .before in
@@ -189,7 +193,7 @@ returns-6 c =
     let R = sym (a .before .before .records .ensures) ∙ a .enum-told .given .1 in
     let N = stage-in expression.checkOf (k .before .body .ensures) (k .check .ensures) (b .enum-told3 .given .1) in
     let C = stage-in chart.checkOf (m .before .body2 .ensures) (m .check2 .ensures) (d .enum-told5 .given .1) in
-    let L = labelling-in _ (m .before .body2 .ensures) (w .before .body3 .ensures) (w .check3 .ensures) (e .before .labelled .given .1) in
+    let L = labelling-in _ (m .before .body2 .ensures) (w .before .before .body3 .ensures) (w .check3 .ensures) (e .before .labelled .given .1) in
     let h = g .enum-told8 .given .1 in
     let B = relation-in _ (m .before .body2 .ensures) (k .before .body .ensures) (r .before .body4 .ensures) (r .check-relation .ensures) h in
     let v = c .before .byte .ensures .0 ∙ ap verticesOf (m .before .body2 .ensures) in
@@ -217,6 +221,7 @@ check-spec =
     enum-told-6
     refusal-requires-3
     returns-3
+    begins-requires
     body-requires-3
     check-requires-3
     enum-known-labelled

@@ -11,7 +11,7 @@ add-opening : tie.Need-add-opening
 add-opening c = search needs
 
 opening-requires : tie.Need-opening-requires
-opening-requires c κs = let k = c .before .before .before in (k .pre .1, nodes-few _ (k .pre .0), omega arith)
+opening-requires c κs = let k = c .before .before .before in (k .pre .0 .1, nodes-few _ (k .pre .0 .0), omega arith)
 
 enum-told : tie.Need-enum-told
 enum-told c = search needs
@@ -32,7 +32,7 @@ check-numbered-pairs-requires c κs =
     let k = c .before .before .before .before .before .before in
     let n = k .args .nodes .now in
     let (F, S) = opening-passes (bodyOf n) _ _ _ _ (nodes-vertices n) (nodes-start n) (c .before .before .opening .ensures) (c .enum-told .given .1) in
-    record { both = k .pre; is-number = sym (nodes-vertices n); fits = F; starts = S }
+    (record { both = k .pre .0; is-number = sym (nodes-vertices n); fits = F; starts = S }, k .pre .1)
 
 returns-2 : tie.Need-returns-2
 returns-2 c = search needs
