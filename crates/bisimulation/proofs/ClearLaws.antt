@@ -20,17 +20,19 @@ use Rattle.chart.specs.Bodies.{verticesOf, startOf, actionOf, toOf, WellFormed}
 use Rattle.chart.specs.Leaving.{Begins}
 use Rattle.chart.proofs.Checks.{well-formed}
 use Rattle.chart.proofs.Order.{at-mid, between}
-use Rattle.bisimulation.specs.declared.clearing.Known.{Known}
+use Rattle.bisimulation.specs.declared.clearing.Latest.{Latest}
 use Rattle.bisimulation.specs.declared.clearing.Matches.{Matches}
 use Rattle.bisimulation.specs.Relations.{indexedOf}
 use Rattle.bisimulation.specs.Answers.{Related, RelationFits, Passes, CheckedAnswer, NumberedChart}
-use Rattle.bisimulation.specs.Suspects.{Column, Into, Acting, UsedBy, Used, Match, MatchedIn, Clear, Able, Knows, Walked, Cleared, SameEnd, Refusable, Gathered}
+use Rattle.bisimulation.specs.Suspects.{Column, Into, Acting, UsedBy, Used, Match, MatchedIn}
+use Rattle.bisimulation.specs.Suspects.{Clear, Able, Knows, Walked, Cleared, SameEnd, Refusable, Gathered}
 use Rattle.bisimulation.specs.Classes.{Unsuspected}
 use Rattle.bisimulation.specs.Pairs.{StepTables, Sought}
 use Rattle.bisimulation.proofs.StepLaws.{step-of, at-step, match-low, is-matched}
 
 -- `matching`: x and y are the target and the action that the code reads
-pub match-read : (into acting body : List ℕ) (i r : ℕ) {x y : ℕ} → x ≡ toOf body i → y ≡ actionOf body i → ((j : ℕ) → On r j ↔ (On (getD into x 0) j × On (getD acting y 0) j)) → (k : ℕ) → On r k ↔ Match into acting body i k
+pub match-read : (into acting body : List ℕ) (i r : ℕ) {x y : ℕ} → x ≡ toOf body i → y ≡ actionOf body i
+    → ((j : ℕ) → On r j ↔ (On (getD into x 0) j × On (getD acting y 0) j)) → (k : ℕ) → On r k ↔ Match into acting body i k
 match-read into acting body i r e f h k = ((λ on. let (p, q) = h k .0 on in (rw e at p, rw f at q)), (λ (p, q). h k .1 (rw e p, rw f q)))
 
 -- `gather`: at first nothing is known
@@ -46,8 +48,10 @@ pub record Walking (into acting users body : List ℕ) (a : ℕ) (set : Set) (ma
   pub same : (u : ℕ) → Has able u → InSome users last u
 
 -- no transition at all
-pub walk-none : (into acting users body : List ℕ) {a b : ℕ} (set : Set) (known : Known) → b ≤ a → Walked into acting users body a b set (record { matched = 0; able = set; known = known })
-walk-none into acting users body set known l = record { matched = λ k on. absurd (zero-off k on); given = λ u h. h; able = λ u h i f g. absurd (omega arith) }
+pub walk-none : (into acting users body : List ℕ) {a b : ℕ} (set : Set) (known : Latest) → b ≤ a
+    → Walked into acting users body a b set (record { matched = 0; able = set; known = known })
+walk-none into acting users body set known l =
+    record { matched = λ k on. absurd (zero-off k on); given = λ u h. h; able = λ u h i f g. absurd (omega arith) }
 
 -- the rows with a step of a word
 steps-in : (users : List ℕ) (x : ℕ) {s t r : Set} → Members (InSome users x) t → Intersection s t r → (u : ℕ) → Has r u → InSome users x u
@@ -64,7 +68,8 @@ walk-first into acting users body a first E U I = record {
 }
 
 module _ {into acting users body : List ℕ} {a : ℕ} {set : Set} {matched last : ℕ} {able : Set} {i : ℕ} (S : Walking into acting users body a set matched last able i) where
-  pub walk-all : {b : ℕ} {all union : Set} (known : Known) → Intersection all union set → b ≤ i → i ≤ b → Walked into acting users body a b all (record { matched = matched; able = able; known = known })
+  pub walk-all : {b : ℕ} {all union : Set} (known : Latest) → Intersection all union set → b ≤ i → i ≤ b
+      → Walked into acting users body a b all (record { matched = matched; able = able; known = known })
   walk-all known I l m = record {
     matched = λ k on. let (j, f, h, M) = S .matches k on in (j, f, omega arith, M);
     given = λ u h. I u .0 (S .given u h) .0;
@@ -162,11 +167,15 @@ gather-more {columns} {into} {acting} {users} {body} {t} {both} {used} {v} {set}
         (λ e. G .others u w (omega arith) h (λ z. n (rw (put-other t v more w e) z)))
 
 -- the tables are those of every chart whose steps are so numbered
-pub step-tables : {keys words body relation e into acting : List ℕ} {m vertices : ℕ} → NumberedChart keys words m vertices body relation e → Into relation keys m into → Acting keys m acting → StepTables into acting words e relation
-step-tables {keys} {e = e} {m = m} N I A = record { formed = well-formed e (N .passes); keys = keys; m = m; numbered = N .numbered; spread = I; acts = A }
+pub step-tables : {keys words body relation e into acting : List ℕ} {m vertices : ℕ}
+    → NumberedChart keys words m vertices body relation e → Into relation keys m into → Acting keys m acting
+    → StepTables into acting words e relation
+step-tables {keys} {e = e} {m = m} N I A =
+    record { formed = well-formed e (N .passes); keys = keys; m = m; numbered = N .numbered; spread = I; acts = A }
 
 -- what the tables let pass does pass, of every chart whose steps are so numbered
-module _ {into acting words body e relation : List ℕ} (B : Bytes body) (W : WellFormed body) (T : StepTables into acting words e relation) where
+module _ {into acting words body e relation : List ℕ} (B : Bytes body) (W : WellFormed body)
+    (T : StepTables into acting words e relation) where
   clear-passes : {u v : ℕ} → Clear into acting words body u v → Passes e body relation u v
   clear-passes {u} {v} C = record { c43 = C .ends; c44 = forth; c45 = back }
     where
@@ -185,21 +194,26 @@ module _ {into acting words body e relation : List ℕ} (B : Bytes body) (W : We
           (i, g, p, sym q, s)
 
   -- where no vertex is a suspect
-  pub all-clear : {suspects : Set} → Unsuspected into acting words body relation suspects → Empty suspects → Related relation (startOf e) (startOf body) → CheckedAnswer e body relation Passed
+  pub all-clear : {suspects : Set} → Unsuspected into acting words body relation suspects → Empty suspects
+      → Related relation (startOf e) (startOf body) → CheckedAnswer e body relation Passed
   all-clear S f z = (related, all-pass z (λ u v r. clear-passes (S u v r (f v))), refl)
 
   module _ {users : List ℕ} {rows used : ℕ} (few : rows ≤ 128) (U : Table 64 (UsedBy words rows) users) (all : Used words rows used) where
     cleared-clear : {u v : ℕ} → u < rows → Cleared into acting users used body u v → Clear into acting words body u v
     cleared-clear {u} {v} l C = record {
       ends = C .ends;
-      forth = λ k on. let n = T .numbered .coded .known u k on in C .forth k (all u k l on) (U .exactly k u (omega (arith, T .numbered .coded .few)) (omega arith) .1 (l, on));
+      forth =
+          λ k on. let n = T .numbered .coded .known u k on in
+          C .forth k (all u k l on) (U .exactly k u (omega (arith, T .numbered .coded .few)) (omega arith) .1 (l, on));
       back = λ i h f.
           let (k, M, r) = C .back i h f in
           let n = match-low B W T i k h M in
           (k, U .exactly k u (omega (arith, T .numbered .coded .few)) (r .below) .0 r .1, M);
     }
 
-    pub sought : {columns table : List ℕ} {suspects : Set} → verticesOf e ≡ rows → Unsuspected into acting words body relation suspects → Table 128 (Column relation suspects) columns → Gathered columns into acting users used body (verticesOf body) table → RelationFits e body relation → Sought into acting words table body e relation
+    pub sought : {columns table : List ℕ} {suspects : Set} → verticesOf e ≡ rows → Unsuspected into acting words body relation suspects
+        → Table 128 (Column relation suspects) columns → Gathered columns into acting users used body (verticesOf body) table
+        → RelationFits e body relation → Sought into acting words table body e relation
     sought {suspects = suspects} q S C G F = record {
       tables = T;
       fits = F;

@@ -126,7 +126,8 @@ pub rows-fit : {keys words : List ℕ} {m vertices : ℕ} {body relation : List 
 rows-fit (e, N) = let h = well-formed e (N .passes) .header .vertices-high in (omega (arith, N .fits .whole, N .size), omega (arith, h, N .size))
 
 -- its steps lead to rows, and row 0 has none
-pub stepped : {keys words : List ℕ} {m vertices : ℕ} {body relation : List ℕ} → SomeChart keys words m vertices body relation → Stepped keys words m vertices relation
+pub stepped : {keys words : List ℕ} {m vertices : ℕ} {body relation : List ℕ} → SomeChart keys words m vertices body relation
+    → Stepped keys words m vertices relation
 stepped {keys} {words} {m} {vertices} (e, N) = record {
   coded = N .numbered .coded;
   targets = λ k l.

@@ -36,11 +36,14 @@ pub passed-refused : {s : Stage} {p : Place} → s ≡ Passed → ¬ (s ≡ Refu
 passed-refused e f = let z : _≡_ {A = ℕ} 0 1 = cc in omega arith
 
 -- 41: d has the bits of row u outside the first V columns, and v is its lowest
-module _ (body relation : List ℕ) (u : ℕ) {v : ℕ} {s inside d : Set} (M : Members (Related relation u) s) (I : Members (λ (w : ℕ). w < verticesOf body) inside) (D : Difference s inside d) (F : First (Has d) 0 128 v) where
+module _ (body relation : List ℕ) (u : ℕ) {v : ℕ} {s inside d : Set} (M : Members (Related relation u) s)
+    (I : Members (λ (w : ℕ). w < verticesOf body) inside) (D : Difference s inside d) (F : First (Has d) 0 128 v) where
   is-stray : (w : ℕ) → Has d w → StrayBit body relation u w
   is-stray w h =
-      let (g, n) = D w .0 h in
-      (by-cases (decLt w (verticesOf body)) (λ l. absurd (n (I .exactly w (h .below) .1 l))) (λ l. omega arith), has-related relation u M w .0 g)
+      let (g, n) = D w .0 h in (
+        by-cases (decLt w (verticesOf body)) (λ l. absurd (n (I .exactly w (h .below) .1 l))) (λ l. omega arith),
+        has-related relation u M w .0 g,
+      )
 
   stray-is : (w : ℕ) → StrayBit body relation u w → Has d w
   stray-is w (l, r) = D w .1 (has-related relation u M w .1 r, λ h. omega (arith, I .exactly w (h .below) .0 h))

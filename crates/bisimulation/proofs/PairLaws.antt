@@ -53,8 +53,11 @@ pub suspects-clear : {into acting words table body e relation : List ℕ} {set :
 suspects-clear {relation = relation} S M u n v r = S .others u v r (λ h. n (M .exactly u (h .below) .1 (v, related-column relation u v r, h)))
 
 -- a transition that is not alone has a step that matches it
-met-by : (into acting body : List ℕ) (steps i : ℕ) → ((k : ℕ) → On steps k → k < 64) → ¬ Alone into acting body steps i → (k : ℕ) × On steps k × Match into acting body i k
-met-by into acting body steps i low f = ⊎-elim (λ (k, l, h). (k, h .0, h .1)) (λ n. absurd (f (λ k on M. n k (low k on) (on, M)))) (look-below {P = λ (k : ℕ). On steps k × Match into acting body i k} meets? 64)
+met-by : (into acting body : List ℕ) (steps i : ℕ) → ((k : ℕ) → On steps k → k < 64) → ¬ Alone into acting body steps i
+    → (k : ℕ) × On steps k × Match into acting body i k
+met-by into acting body steps i low f =
+    ⊎-elim (λ (k, l, h). (k, h .0, h .1)) (λ n. absurd (f (λ k on M. n k (low k on) (on, M))))
+    (look-below {P = λ (k : ℕ). On steps k × Match into acting body i k} meets? 64)
   where
     meets? : (k : ℕ) → Dec (On steps k × Match into acting body i k)
     meets? k = elim (ℕ-discrete (steps / 2 ^ k % 2) 1) [ yes on ↦ second on | no off ↦ no (λ h. off (h .0)) ]
@@ -126,5 +129,7 @@ module _ {into acting words e relation body begins : List ℕ} (B : Bytes body) 
         let (h, f) = leaves r (A .from) l in
         record {
           holds = (h, f, λ (i, g, p, q, c). let (k, b, a, t, on) = step-of T u i g p in A .holds l k on (is-match B W T i k r a t h b (sym q) c));
-          lowest = λ j b (g, p, n). let (k, on, M) = met-by into acting body (getD words u 0) j low-step (A .before j (here j g p .0) b) in n (met j g k on M);
+          lowest =
+              λ j b (g, p, n). let (k, on, M) = met-by into acting body (getD words u 0) j low-step (A .before j (here j g p .0) b) in
+              n (met j g k on M);
         }

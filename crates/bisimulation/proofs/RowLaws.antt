@@ -58,7 +58,8 @@ both-same p q r s h = go (eqb p q) (eqb r s) refl refl h
 same-has : (s t : Set) → s .lo ≡ t .lo → s .hi ≡ t .hi → (w : ℕ) → Has s w → Has t w
 same-has s t e f w h = record { below = h .below; on = rw (e, f) at (h .on) }
 
-pub same-sets : (relation : List ℕ) (a b : ℕ) {s t : Set} → Members (Related relation a) s → Members (Related relation b) t → s .lo ≡ t .lo → s .hi ≡ t .hi → SameRow relation a b
+pub same-sets : (relation : List ℕ) (a b : ℕ) {s t : Set} → Members (Related relation a) s → Members (Related relation b) t
+    → s .lo ≡ t .lo → s .hi ≡ t .hi → SameRow relation a b
 same-sets relation a b {s} {t} S T e f w l = (
   (λ r. T .exactly w l .0 (same-has s t e f w (S .exactly w l .1 r))),
   (λ r. S .exactly w l .0 (same-has t s (sym e) (sym f) w (T .exactly w l .1 r))),

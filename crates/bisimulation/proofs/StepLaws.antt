@@ -13,7 +13,8 @@ use Rattle.bisimulation.specs.Suspects.{Match}
 use Rattle.bisimulation.specs.Pairs.{StepTables}
 
 -- the transition of a vertex for a step that it has
-pub numbered-step : {e keys words : List ℕ} {m : ℕ} → Numbered e keys words m → (u k : ℕ) → On (getD words u 0) k → (i : ℕ) × (i < countOf e) × (fromOf e i ≡ u) × (getD keys k 0 / 256 ≡ actionOf e i) × (getD keys k 0 % 256 ≡ toOf e i)
+pub numbered-step : {e keys words : List ℕ} {m : ℕ} → Numbered e keys words m → (u k : ℕ) → On (getD words u 0) k
+    → (i : ℕ) × (i < countOf e) × (fromOf e i ≡ u) × (getD keys k 0 / 256 ≡ actionOf e i) × (getD keys k 0 % 256 ≡ toOf e i)
 numbered-step {keys = keys} N u k on =
     let a = N .exactly u (getD keys k 0 / 256) (getD keys k 0 % 256) .1 (k, N .coded .known u k on, refl, refl, on) in
     (a .at, a .within, a .leaves, sym (a .holds .is), sym (a .enters))
@@ -44,5 +45,7 @@ module _ {into acting words e relation body : List ℕ} (B : Bytes body) (W : We
     pub is-match : k < T .m → actionOf body j ≡ actionOf e i → Related relation (toOf e i) (toOf body j) → Match into acting body j k
     is-match l q r =
         let w = W .each j h .to-high in
-        let s = W .header .vertices-high in
-        (T .spread .exactly (toOf body j) k (omega arith) .1 (l, subst (λ (x : ℕ). Related relation x (toOf body j)) (sym t) r), T .acts .exactly (actionOf body j) k (B (4 * j + 4 + 1)) .1 (l, a ∙ sym q))
+        let s = W .header .vertices-high in (
+          T .spread .exactly (toOf body j) k (omega arith) .1 (l, subst (λ (x : ℕ). Related relation x (toOf body j)) (sym t) r),
+          T .acts .exactly (actionOf body j) k (B (4 * j + 4 + 1)) .1 (l, a ∙ sym q),
+        )

@@ -36,29 +36,36 @@ over-both over s F P Q = gains-then P Q (λ w z l. (there w z, back w z))
         (λ l. let q : w ≡ 64 + (w - 64) = omega arith in inr ((w - 64, q, has-high over (w - 64) (omega (arith, h .below)) (subst (Has over) q h)), g))
 
 -- `columns`: the first n rows
-pub columns-none : (relation : List ℕ) (among : Set) → Table 128 (λ (v u : ℕ). (u < 0) × Column relation among v u) (replicate {A = ℕ} 256 0)
-columns-none relation among = gained {P = λ (v u : ℕ). (u < 0) × Column relation among v u} 128 256 refl (gains-none (λ v u h. omega (arith, h .0)))
+pub columns-none : (relation : List ℕ) (among : Set)
+    → Table 128 (λ (v u : ℕ). (u < 0) × Column relation among v u) (replicate {A = ℕ} 256 0)
+columns-none relation among =
+    gained {P = λ (v u : ℕ). (u < 0) × Column relation among v u} 128 256 refl (gains-none (λ v u h. omega (arith, h .0)))
 
 pub columns-more : (relation : List ℕ) (among : Set) (n : ℕ) {rows b : ℕ} {t t′ : List ℕ} {row over s : Set}
-    → Table 128 (λ (v u : ℕ). (u < n) × Column relation among v u) t → Stretch (SameRow relation n) rows n b → Members (Related relation n) row
+    → Table 128 (λ (v u : ℕ). (u < n) × Column relation among v u) t → Stretch (SameRow relation n) rows n b
+    → Members (Related relation n) row
     → Intersection row among over → Members (λ (w : ℕ). (n ≤ w) × (w < b)) s → Gains (λ (w z : ℕ). Has over w × Has s z) t t′
     → Table 128 (λ (v u : ℕ). (u < b) × Column relation among v u) t′
-columns-more relation among n {rows} {b} {t} {t′} {row} {over} {s} T R M I B G = table-as (λ v u l m. (there v u l m, back v u l m)) (table-gains T G)
+columns-more relation among n {rows} {b} {t} {t′} {row} {over} {s} T R M I B G =
+    table-as (λ v u l m. (there v u l m, back v u l m)) (table-gains T G)
   where
-    there : (v u : ℕ) → v < 128 → u < 128 → ((u < n) × Column relation among v u) ⊎ (Has over v × Has s u) → (u < b) × Column relation among v u
+    there : (v u : ℕ) → v < 128 → u < 128 → ((u < n) × Column relation among v u) ⊎ (Has over v × Has s u)
+        → (u < b) × Column relation among v u
     there v u l m (inl (p, q)) = (omega (arith, R .some), q)
     there v u l m (inr (h, g)) =
         let (x, y) = I v .0 h in
         let (p, q) = B .exactly u m .0 g in
         (q, (y, R .each u p q v l .0 (M .exactly v l .0 x)))
 
-    back : (v u : ℕ) → v < 128 → u < 128 → (u < b) × Column relation among v u → ((u < n) × Column relation among v u) ⊎ (Has over v × Has s u)
+    back : (v u : ℕ) → v < 128 → u < 128 → (u < b) × Column relation among v u
+        → ((u < n) × Column relation among v u) ⊎ (Has over v × Has s u)
     back v u l m (h, (y, r)) =
         by-cases (decLt u n)
         (λ p. inl (p, (y, r)))
         (λ p. inr (I v .1 (M .exactly v l .1 (R .each u (omega arith) h v l .1 r), y), B .exactly u m .1 (omega arith, h)))
 
-pub columns-all : (relation : List ℕ) {among : Set} {t : List ℕ} (rows : ℕ) → length relation ≡ 16 * rows → Table 128 (λ (v u : ℕ). (u < rows) × Column relation among v u) t → Table 128 (Column relation among) t
+pub columns-all : (relation : List ℕ) {among : Set} {t : List ℕ} (rows : ℕ) → length relation ≡ 16 * rows
+    → Table 128 (λ (v u : ℕ). (u < rows) × Column relation among v u) t → Table 128 (Column relation among) t
 columns-all relation rows e T = table-as (λ v u l m. ((λ h. h .1), (λ h. (related-row relation rows u v e (h .1), h)))) T
 
 -- `row_stretch`

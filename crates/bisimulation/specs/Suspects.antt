@@ -10,7 +10,7 @@ use Rattle.bits.specs.Words.{On}
 use Rattle.bits.specs.Sets.{Has, Members}
 use Rattle.bits.specs.Tables.{HasRow, InSome}
 use Rattle.chart.specs.Bodies.{countOf, fromOf, actionOf, toOf, WellFormed}
-use Rattle.bisimulation.specs.declared.clearing.Known.{Known}
+use Rattle.bisimulation.specs.declared.clearing.Latest.{Latest}
 use Rattle.bisimulation.specs.declared.clearing.Matches.{Matches}
 use Rattle.bisimulation.specs.Answers.{Related}
 
@@ -91,7 +91,7 @@ abbrev pub Able : (into acting users body : List ℕ) → (i u : ℕ) → Type 0
 Able into acting users body i u = (k : ℕ) × Match into acting body i k × HasRow users k u
 
 -- the rows are those with one of the steps
-abbrev pub Knows : (users : List ℕ) → Known → Type 0
+abbrev pub Knows : (users : List ℕ) → Latest → Type 0
 Knows users k = Members (InSome users (k .steps)) (k .rows)
 
 -- of the transitions from a to b: steps that match one of them, and rows of the set with a step for each of them

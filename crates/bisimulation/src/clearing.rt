@@ -19,7 +19,7 @@ ghost use Rattle.chart.specs.Leaving.{Begins};
 ghost use Rattle.bisimulation.specs.Suspects.{Tabled, Match, Knows, Walked, SameEnd, Refusable, Gathered};
 
 // Steps, and the rows with one of them.
-pub struct Known {
+pub struct Latest {
     pub steps: u64,
     pub rows: Set,
 }
@@ -28,13 +28,13 @@ pub struct Known {
 pub struct Matches {
     pub matched: u64,
     pub able: Set,
-    pub known: Known,
+    pub known: Latest,
 }
 
 // Rows that may be refused, and what is known.
 pub struct Refusals {
     pub rows: Set,
-    pub known: Known,
+    pub known: Latest,
 }
 
 // The steps that match transition i: its action, and a target that is related to its target.
@@ -47,7 +47,7 @@ pub(crate) fn matching(into: &[u64; 128], acting: &[u64; 256], body: &[u8], i: u
 }
 
 // The rows with one of the steps, as they are known or found anew.
-fn rows_with(users: &[u64; 128], known: Known, steps: u64) -> Set
+fn rows_with(users: &[u64; 128], known: Latest, steps: u64) -> Set
     requires { ⌜ (length (now users) ≡ 128) × Knows (now users) known ⌝ }
     ensures { λ r. ⌜ Members (InSome (now (users .entry)) steps) r ⌝ }
 {
@@ -68,7 +68,7 @@ fn walk(
     a: usize,
     b: usize,
     set: Set,
-    known: Known,
+    known: Latest,
 ) -> Matches
     requires { ⌜ Tabled (now into) (now acting) (now body)
         × (length (now users) ≡ 128)
@@ -101,7 +101,7 @@ fn walk(
         }
         i += 1;
     }
-    let latest = Known { steps: last, rows };
+    let latest = Latest { steps: last, rows };
     Matches {
         matched,
         able,
@@ -129,7 +129,7 @@ fn refusable(
     begins: &[usize; 129],
     v: usize,
     set: Set,
-    known: Known,
+    known: Latest,
 ) -> Refusals
     requires { ⌜ Tabled (now into) (now acting) (now body)
         × (length (now users) ≡ 128)
@@ -181,7 +181,7 @@ pub(crate) fn gather(
         (now (body .entry)) (verticesOf (now (body .entry))) r ⌝ }
 {
     let n = byte(body, 0);
-    let mut known = Known {
+    let mut known = Latest {
         steps: 0,
         rows: Set::empty(),
     };

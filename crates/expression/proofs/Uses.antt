@@ -36,7 +36,10 @@ set-le (x ∷ a) (suc l) v (suc j) m h q = set-le a l v j m h q
 
 pub bump-le : (a b : List ℕ) (l j : ℕ) → b ≡ bump a l → AtMost 252 a → getD b j 0 < 255
 unfolding bump
-bump-le a b l j e h = let p = h .each l in let q = h .each j in rw e (let m = set-le a l (getD a l 0 + 1) j 254 (omega arith) (omega arith) in omega (arith, m))
+bump-le a b l j e h =
+    let p = h .each l in
+    let q = h .each j in
+    rw e (let m = set-le a l (getD a l 0 + 1) j 254 (omega arith) (omega arith) in omega (arith, m))
 
 tally-long : (v : Node) (a : List ℕ) → length (tally v a) ≡ length a
 unfolding bump

@@ -20,7 +20,7 @@ use Rattle.chart.proofs.Relations.{steps-formed}
 use Rattle.witness.specs.declared.tables.Taken.{Taken}
 use Rattle.witness.specs.declared.tables.Outgoing.{Outgoing}
 use Rattle.witness.specs.Given.{Entry, Enters, EntersFrom, NoSteps, FirstOf, OutgoingOf, Collected}
-use Rattle.witness.specs.Given.{IsBranch, IsEntry, Targets, Took, LevelsOf}
+use Rattle.witness.specs.Given.{IsBranch, IsEntry, RunLeads, Took, LevelsOf}
 use Rattle.witness.proofs.Seen.{Seen, seen-none, seen-first, seen-either, leaves-v, seen-step, step-seen}
 
 -- THE TRANSITIONS OF ONE VERTEX
@@ -51,7 +51,7 @@ module _ {b labels : List ℕ} {lo i e u : ℕ} (low : lo ≤ i) (within : e ≤
       holds = record { from = omega (arith, low, p); below = h; is = el };
     }
 
-    target : {x l w : ℕ} → Seen b labels i (r .at) x l w → Targets b i (r .at) w
+    target : {x l w : ℕ} → Seen b labels i (r .at) x l w → RunLeads b i (r .at) w
     target o = (o .at, o .holds .from, o .holds .below, o .enters)
 
     its : {x l w : ℕ} (o : Seen b labels i (r .at) x l w) → P (o .at)

@@ -295,15 +295,19 @@ abbrev pub LoopsPast : Steps → Set → Type 0
 LoopsPast S left = (w m : ℕ) → (¬ Has left w) → Loop S w m → LoopPasses S w m
 
 -- at first all that have a loop are left
-module _ {b labels branches after entries low high : List ℕ} (W : WellFormed b) (B : Bytes labels) (T : Tables b labels branches after entries low high) where
+module _ {b labels branches after entries low high : List ℕ} (W : WellFormed b) (B : Bytes labels)
+    (T : Tables b labels branches after entries low high) where
   pub past-none : {s : Set} → s ≡ rowOf high 1 → LoopsPast (StepsOf b labels) s
-  past-none e w m n o = absurd (n (rw e (T .of-levels .exactly 1 w (omega arith) (omega (arith, loop-below b labels W B o .0, W .header .vertices-high)) .1 (m, o, omega (arith, o .0)))))
+  past-none e w m n o =
+      absurd
+      (n (rw e (T .of-levels .exactly 1 w (omega arith) (omega (arith, loop-below b labels W B o .0, W .header .vertices-high)) .1 (m, o, omega (arith, o .0)))))
 
   -- and each has a lowest level
   pub level-low : {s : Set} {v : ℕ} → s ≡ rowOf high 1 → Has s v → getD low v 0 < 256
   level-low {s} {v} e h =
       let (m, o, g) = T .of-levels .exactly 1 v (omega arith) (h .below) .0 (rw e at h) in
-      by-cases (decLt (getD low v 0) 256) (λ k. k) (λ k. absurd (T .of-low .each v (h .below) .before m (omega arith) (omega (arith, loop-below b labels W B o .1)) o))
+      by-cases (decLt (getD low v 0) 256) (λ k. k)
+      (λ k. absurd (T .of-low .each v (h .below) .before m (omega arith) (omega (arith, loop-below b labels W B o .1)) o))
 
 module _ {S : Steps} {left : Set} {v : ℕ} (P : LoopsPast S left) where
   pub past-more : {s fewer : Set} → Visit s left v fewer → VertexSaid S v Passed → LoopsPast S fewer
@@ -322,7 +326,8 @@ module _ {S : Steps} {left : Set} {v : ℕ} (P : LoopsPast S left) where
         v,
         l,
         o,
-        λ w m e q. ⊎-elim (λ h. lower w m h q) (λ (z, h). subst (λ (x : ℕ). LoopPasses S x m) (sym z) (below m h (subst (λ (x : ℕ). Loop S x m) z q))) e,
+        λ w m e q. ⊎-elim (λ h. lower w m h q)
+            (λ (z, h). subst (λ (x : ℕ). LoopPasses S x m) (sym z) (below m h (subst (λ (x : ℕ). Loop S x m) z q))) e,
         f,
       )
 

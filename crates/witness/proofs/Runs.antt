@@ -17,7 +17,7 @@ use Rattle.bits.proofs.Members.{⊎-map, zero-off}
 use Rattle.bits.proofs.Gains.{gains-none, gains-then}
 use Rattle.chart.specs.Bodies.{verticesOf, toOf}
 use Rattle.witness.specs.declared.tables.Taken.{Taken}
-use Rattle.witness.specs.Given.{Run, IsBranch, IsEntry, Targets, WithTargets, Took, LevelsOf}
+use Rattle.witness.specs.Given.{Run, IsBranch, IsEntry, RunLeads, WithTargets, Took, LevelsOf}
 
 -- where a transition of a run stands, and what it leads to
 module _ {b ones : List ℕ} {a e : ℕ} (R : Run b ones a e) {i : ℕ} (h : i < e) where
@@ -56,7 +56,7 @@ targets-then {b} {a} {i} {e} {s} {q} {r} l h F G = record {
   );
 }
   where
-    part : (w : ℕ) → Targets b a e w → Has q w ⊎ Targets b i e w
+    part : (w : ℕ) → RunLeads b a e w → Has q w ⊎ RunLeads b i e w
     part w (j, m, n, z) = by-cases (decLt j i) (λ k. inl (F .exactly w .1 (inr (j, m, k, z)))) (λ k. inr (j, omega arith, n, z))
 
 -- a first part of it: nothing, and more

@@ -97,12 +97,12 @@ abbrev pub IsEntry : List ℕ → ℕ → Type 0
 IsEntry labels i = 0 < getD labels i 0
 
 -- one of the run leads to w
-abbrev pub Targets : List ℕ → ℕ → ℕ → ℕ → Type 0
-Targets b a e w = (i : ℕ) × (a ≤ i) × (i < e) × (toOf b i ≡ w)
+abbrev pub RunLeads : List ℕ → ℕ → ℕ → ℕ → Type 0
+RunLeads b a e w = (i : ℕ) × (a ≤ i) × (i < e) × (toOf b i ≡ w)
 
 -- r has what s has, and what the run leads to
 pub record WithTargets (b : List ℕ) (a e : ℕ) (s r : Set) : Type 0 where
-  pub exactly : (w : ℕ) → Has r w ↔ (Has s w ⊎ Targets b a e w)
+  pub exactly : (w : ℕ) → Has r w ↔ (Has s w ⊎ RunLeads b a e w)
 
 -- a first part of the run, all of it with P: what it leads to has come to the set s
 pub record Took (b : List ℕ) (P : ℕ → Type 0) (a e : ℕ) (s : Set) (r : Taken) : Type 0 where

@@ -87,8 +87,8 @@ pub record Below (after high : List ℕ) (level w : ℕ) : Type 0 where
   pub lower : (u : ℕ) → InOrAfter after w u → ¬ HasRow high level u
 
 -- an entry of this level to w, which does not return: nothing is asked of it, or w is below the level
-abbrev pub Passes : Bool → List ℕ → List ℕ → ℕ → ℕ → Type 0
-Passes all after high level w = (all ≡ true) ⊎ Below after high level w
+abbrev pub EntryPasses : Bool → List ℕ → List ℕ → ℕ → ℕ → Type 0
+EntryPasses all after high level w = (all ≡ true) ⊎ Below after high level w
 
 -- a transition with this label to w is marked, among the levels that return or from 256 on; a branch is not. Where r
 -- is true, it passes if it is an entry
@@ -98,9 +98,9 @@ pub record EntryMarked (all : Bool) (after high : List ℕ) (v label w : ℕ) (b
   pub kept : (k : ℕ) → k < 512 → IsLevel before k → IsLevel levels k
   pub only : (k : ℕ) → k < 256 → IsLevel levels k → IsLevel before k ⊎ ((k ≡ label) × Back after v w)
   pub passes : r ≡ true → 0 < label
-      → Back after v w ⊎ (Passes all after high label w × IsLevel levels (256 + label))
+      → Back after v w ⊎ (EntryPasses all after high label w × IsLevel levels (256 + label))
 
 -- each entry of v returns or passes, and each level has one that returns
 pub record EntriesPass (all : Bool) (S : Steps) (after high : List ℕ) (v : ℕ) : Type 0 where
-  pub each : (l w : ℕ) → 0 < l → S v l w → Back after v w ⊎ Passes all after high l w
+  pub each : (l w : ℕ) → 0 < l → S v l w → Back after v w ⊎ EntryPasses all after high l w
   pub returns : (l w : ℕ) → 0 < l → S v l w → (x : ℕ) × S v l x × Back after v x

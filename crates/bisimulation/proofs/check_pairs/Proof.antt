@@ -23,7 +23,8 @@ returns c =
     λ e N.
     let S = c .before .before .suspects .ensures in
     let T = step-tables N (S .0) (S .1) in
-    let (o, h, s) = all-clear (λ j. omega (arith, d .shared-slice-known .given j)) (well-formed _ (d .before .pre .0)) T (S .2) (c .before .is-empty .ensures .0 (c .if1 .taken)) (N .starts) in
+    let (o, h, s) = all-clear (λ j. omega (arith, d .shared-slice-known .given j)) (well-formed _ (d .before .pre .0)) T (S .2)
+    (c .before .is-empty .ensures .0 (c .if1 .taken)) (N .starts) in
     s ∙ relation-of (fitting (N .fits) h)
 
 columns-requires : tie.Need-columns-requires
@@ -37,14 +38,19 @@ users-requires c κs =
 
 used-requires : tie.Need-used-requires
 used-requires c κs =
-    let p = c .before .before .before .before .before .before .before .before .before .pre .2 in (p .1 .numbered .coded .words-long, rows-fit p .1)
+    let p = c .before .before .before .before .before .before .before .before .before .pre .2 in
+    (p .1 .numbered .coded .words-long, rows-fit p .1)
 
 gather-requires : tie.Need-gather-requires
 gather-requires c κs =
     let d = c .before .before .before .before .before in
     let p = d .before .before .before .before .before .before .before .before .before .pre in
-    let S = d .before .before .before .before .suspects .ensures in
-    (record { into-long = S .0 .long; acting-long = S .1 .long; formed = well-formed _ (p .0) }, d .users .ensures .long, p .1, d .before .columns .ensures .long)
+    let S = d .before .before .before .before .suspects .ensures in (
+      record { into-long = S .0 .long; acting-long = S .1 .long; formed = well-formed _ (p .0) },
+      d .users .ensures .long,
+      p .1,
+      d .before .columns .ensures .long,
+    )
 
 search-requires : tie.Need-search-requires
 search-requires c κs =
@@ -67,8 +73,12 @@ returns-2 c =
     let p = d .before .before .before .before .before .before .before .before .before .before .pre in
     let S = d .before .before .before .before .before .suspects .ensures in
     let T = step-tables N (S .0) (S .1) in
-    let F = sought (λ j. omega (arith, d .before .before .before .before .before .before .before .before .before .shared-slice-known .given j)) (well-formed _ (p .0)) T (rows-fit (p .2) .1) (d .before .users .ensures) (d .used .ensures) (N .size) (S .2) (d .before .before .columns .ensures) (c .before .before .before .before .gather .ensures) (N .fits) in
-    let (o, h, s) = c .search .ensures e (d .before .before .before .before .before .before .before .before .before .before .args .relation .now) F (N .size) (N .starts) in
+    let F = sought
+    (λ j. omega (arith, d .before .before .before .before .before .before .before .before .before .shared-slice-known .given j))
+    (well-formed _ (p .0)) T (rows-fit (p .2) .1) (d .before .users .ensures) (d .used .ensures) (N .size) (S .2)
+    (d .before .before .columns .ensures) (c .before .before .before .before .gather .ensures) (N .fits) in
+    let (o, h, s) = c .search .ensures e
+    (d .before .before .before .before .before .before .before .before .before .before .args .relation .now) F (N .size) (N .starts) in
     s ∙ relation-of (fitting (N .fits) h)
 
 pub check-pairs-spec : {M : Type 1} → statement M

@@ -14,7 +14,9 @@ use Rattle.bisimulation.proofs.strays.Statement.{statement}
 use Rattle.bisimulation.proofs.strays.Tie as tie
 
 abbrev Inv-loop : tie.InvT-loop
-Inv-loop body relation rows inside u₀ u = (length relation ≡ 16 * rows) × Members (λ (w : ℕ). w < verticesOf body) inside × ((a : ℕ) → a < u → (v : ℕ) → ¬ StrayBit body relation a v)
+Inv-loop body relation rows inside u₀ u =
+    (length relation ≡ 16 * rows) × Members (λ (w : ℕ). w < verticesOf body)
+    inside × ((a : ℕ) → a < u → (v : ℕ) → ¬ StrayBit body relation a v)
 
 abbrev μ-loop : tie.MeasureT-loop
 μ-loop body relation rows inside u₀ u = rows - u
@@ -23,10 +25,13 @@ byte-requires : tie.Need-byte-requires Inv-loop μ-loop
 byte-requires c κs = let l = well-formed _ (c .before .before .pre .0) .header .long in omega arith
 
 below-requires : tie.Need-below-requires Inv-loop μ-loop
-below-requires c κs = let h = well-formed _ (c .before .before .before .pre .0) .header .vertices-high in omega (arith, h, c .byte .ensures .0)
+below-requires c κs =
+    let h = well-formed _ (c .before .before .before .pre .0) .header .vertices-high in
+    omega (arith, h, c .byte .ensures .0)
 
 loop-holds : tie.Need-loop-holds Inv-loop μ-loop
-loop-holds c = (c .before .before .before .before .pre .1, rw (c .before .byte .ensures .0) at (c .below .ensures), λ a h. absurd (omega arith))
+loop-holds c =
+    (c .before .before .before .before .pre .1, rw (c .before .byte .ensures .0) at (c .below .ensures), λ a h. absurd (omega arith))
 
 read-row-requires : tie.Need-read-row-requires Inv-loop μ-loop
 read-row-requires c κs = let i = c .before .loop .inv .0 in let h = c .loop-test .taken in omega arith

@@ -60,7 +60,8 @@ loop-again c =
           let e = sym (c .code-rises .ensures) ∙ right (l .good) (c .code-rises .result) h in
           rw s
           (turn-rises (λ j. omega (arith, k .shared-slice-known .given j)) (l .inv .1 (left (l .good) (c .code-rises .result) h) (omega (arith, b, rises _ _ _ _ e)))
-          (omega (arith, k .before .pre .2)) (k .before .pre .1) (c .before .before .read-u32 .ensures .0) (c .before .reversed .ensures) e b),
+          (omega (arith, k .before .pre .2)) (k .before .pre .1) (c .before .before .read-u32 .ensures .0)
+          (c .before .reversed .ensures) e b),
     )
 
 mul-result : tie.Need-mul-result Inv-loop μ-loop

@@ -11,7 +11,8 @@ use Rattle.verdict.proofs.check.Statement.{statement}
 use Rattle.verdict.proofs.check.Tie as tie
 
 -- R, N, C, L, B: what the records, the nodes, the chart, the labelling and the relation answer; the chain of what is known goes
--- back from where the code stands: g after the relation, e the labelling, s where the transitions begin, d the chart, b the nodes, a the records
+-- back from where the code stands: g after the relation, e the labelling, s where the transitions begin, d the
+-- chart, b the nodes, a the records
 records-requires : tie.Need-records-requires
 records-requires c κs = search needs
 
@@ -99,7 +100,10 @@ body-requires-3 c κs =
     (R, omega arith)
 
 check-requires-3 : tie.Need-check-requires-3
-check-requires-3 c κs = let s = c .before .before in let d = s .before in (sym (d .before .before .check2 .ensures) ∙ d .enum-told5 .given .1, s .begins .ensures)
+check-requires-3 c κs =
+    let s = c .before .before in
+    let d = s .before in
+    (sym (d .before .before .check2 .ensures) ∙ d .enum-told5 .given .1, s .begins .ensures)
 
 enum-known-labelled : tie.Need-enum-known-labelled
 enum-known-labelled c = search needs
@@ -138,8 +142,10 @@ check-relation-requires c κs =
     let s = c .before .before .before .before .before .before .before .before in
     let d = s .before in
     let m = d .before .before in
-    let b = m .before .before in
-    ((sym (b .before .before .check .ensures) ∙ b .enum-told3 .given .1, sym (m .check2 .ensures) ∙ d .enum-told5 .given .1), s .begins .ensures)
+    let b = m .before .before in (
+      (sym (b .before .before .check .ensures) ∙ b .enum-told3 .given .1, sym (m .check2 .ensures) ∙ d .enum-told5 .given .1),
+      s .begins .ensures,
+    )
 
 enum-told-8 : tie.Need-enum-told-8
 enum-told-8 c = search needs
@@ -164,7 +170,8 @@ returns-5 c =
     let R = sym (a .before .before .records .ensures) ∙ a .enum-told .given .1 in
     let N = stage-in expression.checkOf (k .before .body .ensures) (k .check .ensures) (b .enum-told3 .given .1) in
     let C = stage-in chart.checkOf (m .before .body2 .ensures) (m .check2 .ensures) (d .enum-told5 .given .1) in
-    let L = labelling-in _ (m .before .body2 .ensures) (w .before .before .body3 .ensures) (w .check3 .ensures) (e .before .labelled .given .1) in
+    let L = labelling-in _ (m .before .body2 .ensures) (w .before .before .body3 .ensures) (w .check3 .ensures)
+    (e .before .labelled .given .1) in
     let h = t .enum-told9 .given .1 in
     let B = relation-in _ (m .before .body2 .ensures) (k .before .body .ensures) (r .before .body4 .ensures) (r .check-relation .ensures) h in
     c .refusal4 .ensures _ h ∙ sym (fails-refused _ (relation-fails R N C L B))
@@ -193,7 +200,8 @@ returns-6 c =
     let R = sym (a .before .before .records .ensures) ∙ a .enum-told .given .1 in
     let N = stage-in expression.checkOf (k .before .body .ensures) (k .check .ensures) (b .enum-told3 .given .1) in
     let C = stage-in chart.checkOf (m .before .body2 .ensures) (m .check2 .ensures) (d .enum-told5 .given .1) in
-    let L = labelling-in _ (m .before .body2 .ensures) (w .before .before .body3 .ensures) (w .check3 .ensures) (e .before .labelled .given .1) in
+    let L = labelling-in _ (m .before .body2 .ensures) (w .before .before .body3 .ensures) (w .check3 .ensures)
+    (e .before .labelled .given .1) in
     let h = g .enum-told8 .given .1 in
     let B = relation-in _ (m .before .body2 .ensures) (k .before .body .ensures) (r .before .body4 .ensures) (r .check-relation .ensures) h in
     let v = c .before .byte .ensures .0 ∙ ap verticesOf (m .before .body2 .ensures) in

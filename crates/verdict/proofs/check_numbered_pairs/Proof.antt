@@ -21,13 +21,17 @@ number-steps-requires c κs = search needs
 
 check-pairs-requires : tie.Need-check-pairs-requires
 check-pairs-requires c κs =
-    let k = c .before .before .before .before .before .before .before .before in
-    (k .pre .0 .both .1, k .pre .1, (bodyOf (k .args .nodes .now), charted (λ i. omega (arith, c .before .before .before .before .before .before .before .shared-slice-known .given i)) (k .pre .0) (c .before .before .number-steps .ensures)))
+    let k = c .before .before .before .before .before .before .before .before in (
+      k .pre .0 .both .1,
+      k .pre .1,
+      (bodyOf (k .args .nodes .now), charted (λ i. omega (arith, c .before .before .before .before .before .before .before .shared-slice-known .given i)) (k .pre .0) (c .before .before .number-steps .ensures)),
+    )
 
 returns : tie.Need-returns
 returns c =
     let k = c .before .before .before .before .before .before .before .before .before in
-    c .check-pairs .ensures (bodyOf (k .args .nodes .now)) (charted (λ i. omega (arith, c .before .before .before .before .before .before .before .before .shared-slice-known .given i)) (k .pre .0) (c .before .before .before .number-steps .ensures))
+    c .check-pairs .ensures (bodyOf (k .args .nodes .now))
+    (charted (λ i. omega (arith, c .before .before .before .before .before .before .before .before .shared-slice-known .given i)) (k .pre .0) (c .before .before .before .number-steps .ensures))
 
 pub check-numbered-pairs-spec : {M : Type 1} → statement M
 check-numbered-pairs-spec = tie.close (tie.spec number-steps-requires check-pairs-requires returns)

@@ -43,7 +43,8 @@ bit-and-requires c κs = search needs
 
 returns : tie.Need-returns
 returns c =
-    let p = c .before .before .before .before .before .before .pre in alike-steps (c .bit-and .result) (p .0) (p .1) (p .2) (p .3) (c .bit-and .ensures)
+    let p = c .before .before .before .before .before .before .pre in
+    alike-steps (c .bit-and .result) (p .0) (p .1) (p .2) (p .3) (c .bit-and .ensures)
 
 pub alike-spec : {M : Type 1} → statement M
 alike-spec =

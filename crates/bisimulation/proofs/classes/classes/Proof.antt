@@ -68,7 +68,8 @@ loop-again c =
 
 returns : tie.Need-returns Inv-loop μ-loop
 returns c =
-    let e : c .before .loop .u ≡ c .before .before .before .args .rows = omega (arith, c .before .loop .inv .2, c .loop-test .left) in rw e at (c .before .loop .inv .3)
+    let e : c .before .loop .u ≡ c .before .before .before .args .rows = omega (arith, c .before .loop .inv .2, c .loop-test .left) in
+    rw e at (c .before .loop .inv .3)
 
 pub classes-spec : {M : Type 1} → statement M
 classes-spec =

@@ -43,7 +43,8 @@ mul-bit-and c =
 element-copy-out-bit-and : tie.Need-element-copy-out-bit-and Inv-loop μ-loop
 element-copy-out-bit-and c =
     let d = c .before .before in
-    let i = d .before .loop .inv in omega (arith, i .6 .every-long, (i .0 .class-few (d .before .loop .u) (omega (arith, i .4, d .loop-test .taken))))
+    let i = d .before .loop .inv in
+    omega (arith, i .6 .every-long, (i .0 .class-few (d .before .loop .u) (omega (arith, i .4, d .loop-test .taken))))
 
 saturated-requires : tie.Need-saturated-requires Inv-loop μ-loop
 saturated-requires c κs = let i = c .before .before .before .before .loop .inv in (i .0, i .1, i .2, i .5 _)
@@ -59,7 +60,8 @@ mul-every c =
 element-write-every : tie.Need-element-write-every Inv-loop μ-loop
 element-write-every c =
     let d = c .before .before .before .before .before in
-    let i = d .before .loop .inv in omega (arith, i .6 .every-long, (i .0 .class-few (d .before .loop .u) (omega (arith, i .4, d .loop-test .taken))))
+    let i = d .before .loop .inv in
+    omega (arith, i .6 .every-long, (i .0 .class-few (d .before .loop .u) (omega (arith, i .4, d .loop-test .taken))))
 
 mul-bit-or : tie.Need-mul-bit-or Inv-loop μ-loop
 mul-bit-or c =
@@ -69,7 +71,8 @@ mul-bit-or c =
 element-copy-out-bit-or : tie.Need-element-copy-out-bit-or Inv-loop μ-loop
 element-copy-out-bit-or c =
     let d = c .before .before .before .before .before in
-    let i = d .before .loop .inv in omega (arith, i .6 .some-long, (i .0 .class-few (d .before .loop .u) (omega (arith, i .4, d .loop-test .taken))))
+    let i = d .before .loop .inv in
+    omega (arith, i .6 .some-long, (i .0 .class-few (d .before .loop .u) (omega (arith, i .4, d .loop-test .taken))))
 
 bit-or-requires : tie.Need-bit-or-requires Inv-loop μ-loop
 bit-or-requires c κs = search needs
@@ -82,7 +85,8 @@ mul-some c =
 element-write-some : tie.Need-element-write-some Inv-loop μ-loop
 element-write-some c =
     let d = c .before .before .before .before .before .before .before in
-    let i = d .before .loop .inv in omega (arith, i .6 .some-long, (i .0 .class-few (d .before .loop .u) (omega (arith, i .4, d .loop-test .taken))))
+    let i = d .before .loop .inv in
+    omega (arith, i .6 .some-long, (i .0 .class-few (d .before .loop .u) (omega (arith, i .4, d .loop-test .taken))))
 
 add-u : tie.Need-add-u Inv-loop μ-loop
 add-u c = search needs
@@ -93,8 +97,17 @@ loop-less c = search needs
 loop-again : tie.Need-loop-again Inv-loop μ-loop
 loop-again c =
     let d = c .before .before .before .before .before .before .before in
-    let i = d .before .loop .inv in
-    (i .0, i .1, i .2, i .3, i .4, i .5, join-more (c .before .before .bit-and .result) (c .bit-or .result) (i .6) (i .0 .class-few (d .before .loop .u) (omega (arith, i .4, d .loop-test .taken))) (c .before .before .before .saturated .ensures) (c .before .before .bit-and .ensures) (c .bit-or .ensures))
+    let i = d .before .loop .inv in (
+      i .0,
+      i .1,
+      i .2,
+      i .3,
+      i .4,
+      i .5,
+      join-more (c .before .before .bit-and .result) (c .bit-or .result) (i .6)
+          (i .0 .class-few (d .before .loop .u) (omega (arith, i .4, d .loop-test .taken))) (c .before .before .before .saturated .ensures)
+          (c .before .before .bit-and .ensures) (c .bit-or .ensures),
+    )
 
 returns : tie.Need-returns Inv-loop μ-loop
 returns c = join-end (c .before .loop .inv .6) (c .loop-test .left)

@@ -36,12 +36,21 @@ bit-and-not-requires c κs = search needs
 loop-less : tie.Need-loop-less Inv-loop μ-loop
 loop-less c =
     let d = c .before .before in
-    fewer _ (d .alike .result) (c .bit-and-not .result) _ (d .before .lowest-bit .ensures .on) (d .alike .ensures .0) (c .bit-and-not .ensures)
+    fewer _ (d .alike .result) (c .bit-and-not .result) _ (d .before .lowest-bit .ensures .on) (d .alike .ensures .0)
+    (c .bit-and-not .ensures)
 
 loop-again : tie.Need-loop-again Inv-loop μ-loop
 loop-again c =
     let d = c .before .before in
-    let i = d .before .before .before .loop .inv in (i .0, i .1, i .2, i .3, λ k on. i .4 k (c .bit-and-not .ensures k .0 on .0), saturated-more (d .alike .result) (c .before .bit-or .result) _ (i .5) (i .4 _ (d .before .lowest-bit .ensures .on)) (d .alike .ensures .1) (c .before .bit-or .ensures))
+    let i = d .before .before .before .loop .inv in (
+      i .0,
+      i .1,
+      i .2,
+      i .3,
+      λ k on. i .4 k (c .bit-and-not .ensures k .0 on .0),
+      saturated-more (d .alike .result) (c .before .bit-or .result) _ (i .5) (i .4 _ (d .before .lowest-bit .ensures .on))
+          (d .alike .ensures .1) (c .before .bit-or .ensures),
+    )
 
 returns : tie.Need-returns Inv-loop μ-loop
 returns c = c .before .loop .inv .5

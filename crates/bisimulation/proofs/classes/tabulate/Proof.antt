@@ -49,7 +49,8 @@ mul-bit-and c =
 element-copy-out-bit-and : tie.Need-element-copy-out-bit-and Inv-loop μ-loop
 element-copy-out-bit-and c =
     let d = c .before .before .before in
-    omega (arith, d .before .loop .inv .0 .class-few _ (d .before .loop .inv .0 .targets _ (d .loop-test .taken)), d .before .loop .inv .2 .long)
+    omega
+    (arith, d .before .loop .inv .0 .class-few _ (d .before .loop .inv .0 .targets _ (d .loop-test .taken)), d .before .loop .inv .2 .long)
 
 mul-bit-and-2 : tie.Need-mul-bit-and-2 Inv-loop μ-loop
 mul-bit-and-2 c = let d = c .before .before .before .before in omega (arith, d .before .loop .inv .0 .fit _ (d .loop-test .taken))
@@ -73,7 +74,8 @@ mul-with-bit c =
 element-copy-out-with-bit : tie.Need-element-copy-out-with-bit Inv-loop μ-loop
 element-copy-out-with-bit c =
     let d = c .before .before .before .before .before .before .before in
-    omega (arith, d .before .loop .inv .0 .class-few _ (d .before .loop .inv .0 .targets _ (d .loop-test .taken)), d .before .loop .inv .2 .long)
+    omega
+    (arith, d .before .loop .inv .0 .class-few _ (d .before .loop .inv .0 .targets _ (d .loop-test .taken)), d .before .loop .inv .2 .long)
 
 with-bit-requires : tie.Need-with-bit-requires Inv-loop μ-loop
 with-bit-requires c κs = omega (arith, c .before .before .before .before .before .before .before .before .before .loop .inv .0 .steps-few)
@@ -86,7 +88,8 @@ mul-leading c =
 element-write-leading : tie.Need-element-write-leading Inv-loop μ-loop
 element-write-leading c =
     let d = c .before .before .before .before .before .before .before .before .before in
-    omega (arith, d .before .loop .inv .0 .class-few _ (d .before .loop .inv .0 .targets _ (d .loop-test .taken)), d .before .loop .inv .2 .long)
+    omega
+    (arith, d .before .loop .inv .0 .class-few _ (d .before .loop .inv .0 .targets _ (d .loop-test .taken)), d .before .loop .inv .2 .long)
 
 mul-with-bit-2 : tie.Need-mul-with-bit-2 Inv-loop μ-loop
 mul-with-bit-2 c =
@@ -122,12 +125,20 @@ loop-again : tie.Need-loop-again Inv-loop μ-loop
 loop-again c =
     let d = c .before .before .before .before .before .before .before .before .before .before .before in
     let i = d .before .loop .inv in
-    let k = d .before .before .args in
-    (i .0, omega arith, sorted-more (classAt (k .keys .now) (k .class .now)) (i .2) (i .0 .class-few _ (i .0 .targets _ (d .loop-test .taken))) (c .before .before .with-bit .ensures), sorted-more (λ (j : ℕ). getD (k .keys .now) j 0 / 256) (i .3) (omega (arith, i .0 .fit _ (d .loop-test .taken))) (c .with-bit2 .ensures))
+    let k = d .before .before .args in (
+      i .0,
+      omega arith,
+      sorted-more (classAt (k .keys .now) (k .class .now)) (i .2) (i .0 .class-few _ (i .0 .targets _ (d .loop-test .taken)))
+          (c .before .before .with-bit .ensures),
+      sorted-more (λ (j : ℕ). getD (k .keys .now) j 0 / 256) (i .3) (omega (arith, i .0 .fit _ (d .loop-test .taken)))
+          (c .with-bit2 .ensures),
+    )
 
 returns : tie.Need-returns Inv-loop μ-loop
 returns c =
-    let i = c .before .loop .inv in let e : c .before .loop .k ≡ c .before .before .args .m = omega (arith, i .1, c .loop-test .left) in (rw e at (i .2), rw e at (i .3))
+    let i = c .before .loop .inv in
+    let e : c .before .loop .k ≡ c .before .before .args .m = omega (arith, i .1, c .loop-test .left) in
+    (rw e at (i .2), rw e at (i .3))
 
 pub tabulate-spec : {M : Type 1} → statement M
 tabulate-spec =

@@ -26,16 +26,21 @@ empty-requires c κs = search needs
 
 loop-holds : tie.Need-loop-holds Inv-loop μ-loop
 loop-holds c =
-    let p = c .before .before .before .pre in (p .0, p .1, p .2, p .3, c .before .byte .ensures .0, omega arith, knows-none _ (c .empty .ensures), gather-none _ _ _ _ _ _)
+    let p = c .before .before .before .pre in
+    (p .0, p .1, p .2, p .3, c .before .byte .ensures .0, omega arith, knows-none _ (c .empty .ensures), gather-none _ _ _ _ _ _)
 
 row-requires : tie.Need-row-requires Inv-loop μ-loop
 row-requires c κs =
-    let i = c .before .before .loop .inv in let h = i .0 .formed .header .vertices-high in omega (arith, i .3, i .4, h, c .before .loop-test .taken)
+    let i = c .before .before .loop .inv in
+    let h = i .0 .formed .header .vertices-high in
+    omega (arith, i .3, i .4, h, c .before .loop-test .taken)
 
 refusable-requires : tie.Need-refusable-requires Inv-loop μ-loop
 refusable-requires c κs =
     let d = c .before .before in
-    let i = d .before .loop .inv in let h = i .0 .formed .header .vertices-high in (i .0, i .1, i .2, omega (arith, i .4, h, d .loop-test .taken), i .6)
+    let i = d .before .loop .inv in
+    let h = i .0 .formed .header .vertices-high in
+    (i .0, i .1, i .2, omega (arith, i .4, h, d .loop-test .taken), i .6)
 
 slice-aggregate-put-row : tie.Need-slice-aggregate-put-row Inv-loop μ-loop
 slice-aggregate-put-row c = search needs
@@ -56,13 +61,23 @@ loop-again c =
     let d = c .before .before .before .before .before in
     let i = d .before .before .before .before .loop .inv in
     let h = i .0 .formed .header .vertices-high in
-    let R = d .refusable .ensures in
-    (i .0, i .1, i .2, i .3, i .4, omega arith, R .1, gather-more (i .7) (omega (arith, i .4, h, d .before .before .before .loop-test .taken)) (d .before .row .ensures) (R .0) (c .before .put-row .ensures))
+    let R = d .refusable .ensures in (
+      i .0,
+      i .1,
+      i .2,
+      i .3,
+      i .4,
+      omega arith,
+      R .1,
+      gather-more (i .7) (omega (arith, i .4, h, d .before .before .before .loop-test .taken)) (d .before .row .ensures) (R .0)
+          (c .before .put-row .ensures),
+    )
 
 returns : tie.Need-returns Inv-loop μ-loop
 returns c =
     let i = c .before .loop in
-    let e : i .v ≡ verticesOf (c .before .before .before .before .before .args .body .now) = omega (arith, i .inv .4, i .inv .5, c .loop-test .left) in
+    let e : i .v ≡ verticesOf (c .before .before .before .before .before .args .body .now) = omega
+    (arith, i .inv .4, i .inv .5, c .loop-test .left) in
     rw e at (i .inv .7)
 
 pub gather-spec : {M : Type 1} → statement M

@@ -21,7 +21,9 @@ mul-bit-and c = search needs
 
 element-copy-out-bit-and : tie.Need-element-copy-out-bit-and
 element-copy-out-bit-and c =
-    let k = c .before .before in omega (arith, c .byte .ensures .0, k .pre .0 .formed .each (k .args .i) (k .pre .1) .to-high, k .pre .0 .formed .header .vertices-high, k .pre .0 .into-long)
+    let k = c .before .before in
+    omega
+    (arith, c .byte .ensures .0, k .pre .0 .formed .each (k .args .i) (k .pre .1) .to-high, k .pre .0 .formed .header .vertices-high, k .pre .0 .into-long)
 
 add-byte-2 : tie.Need-add-byte-2
 add-byte-2 c = search needs
@@ -41,7 +43,9 @@ bit-and-requires c κs = search needs
 returns : tie.Need-returns
 returns c =
     let d = c .before .before in
-    let k = d .before .before .before .before .args in match-read (k .into .now) (k .acting .now) (k .body .now) (k .i) (c .bit-and .result) (d .before .before .byte .ensures .0) (d .byte2 .ensures .0) (c .bit-and .ensures)
+    let k = d .before .before .before .before .args in
+    match-read (k .into .now) (k .acting .now) (k .body .now) (k .i) (c .bit-and .result) (d .before .before .byte .ensures .0)
+    (d .byte2 .ensures .0) (c .bit-and .ensures)
 
 pub matching-spec : {M : Type 1} → statement M
 matching-spec =

@@ -50,8 +50,10 @@ returns-2 : tie.Need-returns-2
 returns-2 c =
     let d = c .before .before .before .before .before .before .before in
     let p = d .before .before .before .before .before .before .before .pre in
-    let W = d .walk .ensures in
-    (refuse-some (p .2) (p .3) (d .before .same-ends .ensures) (W .0) _ (c .before .before .before .bit-and-not .ensures) (c .before .before .united .ensures) (c .before .difference .ensures) (c .difference2 .ensures), W .1)
+    let W = d .walk .ensures in (
+      refuse-some (p .2) (p .3) (d .before .same-ends .ensures) (W .0) _ (c .before .before .before .bit-and-not .ensures) (c .before .before .united .ensures) (c .before .difference .ensures) (c .difference2 .ensures),
+      W .1,
+    )
 
 pub refusable-spec : {M : Type 1} → statement M
 refusable-spec =

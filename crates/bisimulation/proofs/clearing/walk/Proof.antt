@@ -39,8 +39,15 @@ loop-holds : tie.Need-loop-holds Inv-loop μ-loop
 loop-holds c =
     let d = c .before .before in
     let k = d .before .before .before .args in
-    let p = d .before .before .before .pre in
-    (p .0, p .1, p .3, omega arith, walk-first (k .into .now) (k .acting .now) (k .users .now) (k .body .now) (k .a) (d .matching .result) (d .matching .ensures) (c .before .rows-with .ensures) (c .intersection .ensures), c .before .rows-with .ensures)
+    let p = d .before .before .before .pre in (
+      p .0,
+      p .1,
+      p .3,
+      omega arith,
+      walk-first (k .into .now) (k .acting .now) (k .users .now) (k .body .now) (k .a) (d .matching .result) (d .matching .ensures)
+          (c .before .rows-with .ensures) (c .intersection .ensures),
+      c .before .rows-with .ensures,
+    )
 
 matching-requires-2 : tie.Need-matching-requires-2 Inv-loop μ-loop
 matching-requires-2 c κs = let i = c .before .loop .inv in (i .0, omega arith)

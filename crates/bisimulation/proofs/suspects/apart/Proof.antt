@@ -21,7 +21,8 @@ union-requires c κs = search needs
 returns : tie.Need-returns
 returns c =
     let d = c .before .before in
-    apart-sets (d .before .before .empty .ensures) (d .before .with .ensures) (d .intersection .ensures) (c .before .without .ensures) (c .union .ensures)
+    apart-sets (d .before .before .empty .ensures) (d .before .with .ensures) (d .intersection .ensures) (c .before .without .ensures)
+    (c .union .ensures)
 
 pub apart-spec : {M : Type 1} → statement M
 apart-spec =

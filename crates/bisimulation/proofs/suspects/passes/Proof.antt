@@ -69,9 +69,18 @@ loop-again : tie.Need-loop-again Inv-loop μ-loop
 loop-again c =
     let d = c .before .before .before .before in
     let i = d .before .before .before .before .before .loop .inv in
-    let S = meet-more (i .4) (d .before .before .before .matching .result) (c .before .bit-or .result) (d .before .before .before .matching .ensures) (d .before .before .meets .ensures .0 (not-false _ (d .before .if2 .left))) (c .before .bit-or .ensures) in
-    let e : d .before .before .before .before .before .loop .i + 1 + 1 ≡ d .before .before .before .before .before .loop .i + 2 = omega arith in
-    (i .0, i .1, i .2, omega (arith, i .2, d .before .before .before .before .loop-test .taken), rw e at (meet-more S (d .matching2 .result) (c .bit-or2 .result) (d .matching2 .ensures) (c .before .before .before .meets2 .ensures .0 (not-false _ (c .before .before .if3 .left))) (c .bit-or2 .ensures)))
+    let S = meet-more (i .4) (d .before .before .before .matching .result) (c .before .bit-or .result)
+    (d .before .before .before .matching .ensures) (d .before .before .meets .ensures .0 (not-false _ (d .before .if2 .left)))
+    (c .before .bit-or .ensures) in
+    let e : d .before .before .before .before .before .loop .i + 1 + 1 ≡ d .before .before .before .before .before .loop .i + 2 = omega
+    arith in (
+      i .0,
+      i .1,
+      i .2,
+      omega (arith, i .2, d .before .before .before .before .loop-test .taken),
+      rw e at
+          (meet-more S (d .matching2 .result) (c .bit-or2 .result) (d .matching2 .ensures) (c .before .before .before .meets2 .ensures .0 (not-false _ (c .before .before .if3 .left))) (c .bit-or2 .ensures)),
+    )
 
 matching-requires-3 : tie.Need-matching-requires-3 Inv-loop μ-loop
 matching-requires-3 c κs = let i = c .before .before .loop .inv in (i .0, omega (arith, i .1))
@@ -93,15 +102,18 @@ returns-5 c =
     let d = c .before .before .before .before in
     λ h.
     let i = d .before .before .before .loop .inv in
-    let S = meet-more (i .4) (d .matching3 .result) (c .before .bit-or3 .result) (d .matching3 .ensures) (c .before .before .before .meets3 .ensures .0 (not-false _ (c .before .before .if5 .left))) (c .before .bit-or3 .ensures) in
-    meet-all S _ (c .bit-and-not .result) (omega (arith, i .2, d .before .before .loop-test .left)) (omega (arith, d .before .if4 .taken)) (c .bit-and-not .ensures) (eqb-true _ _ h)
+    let S = meet-more (i .4) (d .matching3 .result) (c .before .bit-or3 .result) (d .matching3 .ensures)
+    (c .before .before .before .meets3 .ensures .0 (not-false _ (c .before .before .if5 .left))) (c .before .bit-or3 .ensures) in
+    meet-all S _ (c .bit-and-not .result) (omega (arith, i .2, d .before .before .loop-test .left))
+    (omega (arith, d .before .if4 .taken)) (c .bit-and-not .ensures) (eqb-true _ _ h)
 
 bit-and-not-requires-2 : tie.Need-bit-and-not-requires-2 Inv-loop μ-loop
 bit-and-not-requires-2 c κs = search needs
 
 returns-6 : tie.Need-returns-6 Inv-loop μ-loop
 returns-6 c =
-    λ h. let i = c .before .before .before .loop .inv in meet-all (i .4) _ (c .bit-and-not2 .result) (c .before .if4 .left) (i .3) (c .bit-and-not2 .ensures) (eqb-true _ _ h)
+    λ h. let i = c .before .before .before .loop .inv in
+    meet-all (i .4) _ (c .bit-and-not2 .result) (c .before .if4 .left) (i .3) (c .bit-and-not2 .ensures) (eqb-true _ _ h)
 
 pub passes-spec : {M : Type 1} → statement M
 passes-spec =

@@ -79,8 +79,14 @@ loop-again : tie.Need-loop-again Inv-loop μ-loop
 loop-again c =
     let d = c .before .before .before .before .before .before .before .before in
     let i = d .before .loop .inv in
-    let T = left-next (i .4) (d .loop-test .taken) (c .before .without-lowest .ensures) in
-    (i .0, i .1, i .2, i .3, left-after T (c .lowest2 .ensures), sift-more (i .5) T (c .before .before .before .passes .ensures) (c .before .before .with-if .ensures))
+    let T = left-next (i .4) (d .loop-test .taken) (c .before .without-lowest .ensures) in (
+      i .0,
+      i .1,
+      i .2,
+      i .3,
+      left-after T (c .lowest2 .ensures),
+      sift-more (i .5) T (c .before .before .before .passes .ensures) (c .before .before .with-if .ensures),
+    )
 
 returns : tie.Need-returns Inv-loop μ-loop
 returns c = let i = c .before .loop .inv in sift-all (i .5) (left-none (i .4) (c .loop-test .left))

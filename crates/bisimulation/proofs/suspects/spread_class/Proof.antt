@@ -45,12 +45,16 @@ element-copy-out-spread-steps-3 c =
 
 spread-steps-requires : tie.Need-spread-steps-requires
 spread-steps-requires c κs =
-    let S = c .before .before .before .before .before .before .before .before .before .before .pre .3 in (S .into-long, S .all-long, S .any-long)
+    let S = c .before .before .before .before .before .before .before .before .before .before .pre .3 in
+    (S .into-long, S .all-long, S .any-long)
 
 returns-2 : tie.Need-returns-2
 returns-2 c =
     let d = c .before .before .before .before .before .before .before in
-    let S = c .spread-steps .ensures in (spread-more (d .before .before .before .before .pre .3) (d .before .if1 .left) (d .read-row .ensures) (S .0) (S .1) (S .2), λ w t. has-related _ _ (d .read-row .ensures) w .1 (t .1))
+    let S = c .spread-steps .ensures in (
+      spread-more (d .before .before .before .before .pre .3) (d .before .if1 .left) (d .read-row .ensures) (S .0) (S .1) (S .2),
+      λ w t. has-related _ _ (d .read-row .ensures) w .1 (t .1),
+    )
 
 pub spread-class-spec : {M : Type 1} → statement M
 spread-class-spec =

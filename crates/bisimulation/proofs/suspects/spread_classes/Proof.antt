@@ -25,7 +25,14 @@ empty-requires c κs = search needs
 loop-holds : tie.Need-loop-holds Inv-loop μ-loop
 loop-holds c =
     let d = c .before .before .before .before .before .before in
-    let p = d .pre in (p .0, p .1, omega (arith, p .2), p .3, c .before .spread-class .ensures .0, rows-in-none (d .args .relation .now) (d .args .class .now))
+    let p = d .pre in (
+      p .0,
+      p .1,
+      omega (arith, p .2),
+      p .3,
+      c .before .spread-class .ensures .0,
+      rows-in-none (d .args .relation .now) (d .args .class .now),
+    )
 
 spread-class-requires-2 : tie.Need-spread-class-requires-2 Inv-loop μ-loop
 spread-class-requires-2 c κs =
@@ -44,11 +51,16 @@ loop-less c = search needs
 loop-again : tie.Need-loop-again Inv-loop μ-loop
 loop-again c =
     let d = c .before .before .before .before .before .before .before .before .before .before .before .before .before in
-    let i = c .before .before .before .before .before .before .loop .inv in let S = c .before .spread-class2 .ensures in (i .0, i .1, omega arith, i .3, S .0, rows-in-more (d .args .relation .now) (d .args .class .now) _ (i .5) (S .1) (c .union .ensures))
+    let i = c .before .before .before .before .before .before .loop .inv in
+    let S = c .before .spread-class2 .ensures in
+    (i .0, i .1, omega arith, i .3, S .0, rows-in-more (d .args .relation .now) (d .args .class .now) _ (i .5) (S .1) (c .union .ensures))
 
 returns : tie.Need-returns Inv-loop μ-loop
 returns c =
-    let i = c .before .loop .inv in let e : c .before .loop .c ≡ c .before .before .before .before .before .before .before .before .args .rows = omega (arith, i .2, c .loop-test .left) in (rw e at (i .4), rw e at (i .5))
+    let i = c .before .loop .inv in
+    let e : c .before .loop .c ≡ c .before .before .before .before .before .before .before .before .args .rows = omega
+    (arith, i .2, c .loop-test .left) in
+    (rw e at (i .4), rw e at (i .5))
 
 pub spread-classes-spec : {M : Type 1} → statement M
 spread-classes-spec =

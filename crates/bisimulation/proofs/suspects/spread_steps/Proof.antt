@@ -3,7 +3,8 @@ use lib.ListN.{length}
 use Rattle.bits.specs.Sets.{sizeOf}
 use Rattle.bits.proofs.Visits.{Left, visit-less, left-all, left-next, left-after, left-some, left-none}
 use Rattle.bisimulation.specs.Classes.{Adds, Cuts}
-use Rattle.bisimulation.proofs.SuspectLaws.{adds-none, cuts-none, adds-more, cuts-more, adds-as, cuts-as, Past, past-first, past-next, past-last}
+use Rattle.bisimulation.proofs.SuspectLaws.{adds-none, cuts-none, adds-more, cuts-more, adds-as}
+use Rattle.bisimulation.proofs.SuspectLaws.{cuts-as, Past, past-first, past-next, past-last}
 use borrow.Author.Needs.{needs}
 use native.Mathlib.Omega.{arith}
 use Rattle.bisimulation.proofs.suspects.spread_steps.Statement.{statement}
@@ -22,7 +23,9 @@ lowest-requires c κs = search needs
 
 loop-holds : tie.Need-loop-holds Inv-loop μ-loop
 loop-holds c =
-    let p = c .before .pre in let f = past-first (c .before .args .vertices) in (p .0, p .1, p .2, left-all (c .lowest .ensures), adds-none f, cuts-none f, adds-none f)
+    let p = c .before .pre in
+    let f = past-first (c .before .args .vertices) in
+    (p .0, p .1, p .2, left-all (c .lowest .ensures), adds-none f, cuts-none f, adds-none f)
 
 mul-bit-or : tie.Need-mul-bit-or Inv-loop μ-loop
 mul-bit-or c = search needs
@@ -109,7 +112,9 @@ loop-again c =
 
 returns : tie.Need-returns Inv-loop μ-loop
 returns c =
-    let i = c .before .loop .inv in let E = past-last (left-none (i .3) (c .loop-test .left)) in (adds-as E (i .4), cuts-as E (i .5), adds-as E (i .6))
+    let i = c .before .loop .inv in
+    let E = past-last (left-none (i .3) (c .loop-test .left)) in
+    (adds-as E (i .4), cuts-as E (i .5), adds-as E (i .6))
 
 pub spread-steps-spec : {M : Type 1} → statement M
 spread-steps-spec =

@@ -17,8 +17,16 @@ tabulate-requires c κs =
 join-rows-requires : tie.Need-join-rows-requires
 join-rows-requires c κs =
     let d = c .before .before .before .before .before in
-    let T = d .before .before .before .before .before .before .before .before .pre .0 in
-    (classed T (d .before .before .before .before .classes .ensures), d .tabulate .ensures .0, d .tabulate .ensures .1, T .coded .words-long, T .few, T .coded .known, refl, refl)
+    let T = d .before .before .before .before .before .before .before .before .pre .0 in (
+      classed T (d .before .before .before .before .classes .ensures),
+      d .tabulate .ensures .0,
+      d .tabulate .ensures .1,
+      T .coded .words-long,
+      T .few,
+      T .coded .known,
+      refl,
+      refl,
+    )
 
 spread-classes-requires : tie.Need-spread-classes-requires
 spread-classes-requires c κs =
@@ -30,27 +38,32 @@ spread-classes-requires c κs =
       T .whole,
       T .few,
       T .some,
-      record { class-long = C .long; class-few = C .few; leading-long = d .tabulate .ensures .0 .long; every-long = G .every-long; some-long = G .some-long },
+      record
+          { class-long = C .long; class-few = C .few; leading-long = d .tabulate .ensures .0 .long; every-long = G .every-long; some-long = G .some-long },
       spread-none (p .3) refl refl,
     )
 
 read-row-requires : tie.Need-read-row-requires
 read-row-requires c κs =
-    let T = c .before .before .before .before .before .before .before .before .before .before .before .before .before .before .before .before .before .before .before .before .before .before .pre .0 in omega (arith, T .whole, T .some)
+    let j = c .before .before .before .before .before .before .before .before .before .before .before in
+    let T = j .before .before .before .before .before .before .before .before .before .before .before .pre .0 in
+    omega (arith, T .whole, T .some)
 
 apart-requires : tie.Need-apart-requires
 apart-requires c κs = search needs
 
 sift-requires : tie.Need-sift-requires
 sift-requires c κs =
-    let d = c .before .before .before .before .before .before .before .before .before .before .before .before .before .before .before .before .before .before .before .before in
+    let j = c .before .before .before .before .before .before .before .before .before .before in
+    let d = j .before .before .before .before .before .before .before .before .before .before in
     let p = d .before .before .before .before .before .before .before .before .pre in
     let S = c .before .before .before .before .before .before .spread-classes .ensures .0 in
     (record { into-long = S .into-long; acting-long = d .tabulate .ensures .1 .long; formed = p .2 }, p .1, S .all-long, S .any-long)
 
 returns : tie.Need-returns
 returns c =
-    let d = c .before .before .before .before .before .before .before .before .before .before .before .before .before .before .before .before .before .before .before .before .before in
+    let j = c .before .before .before .before .before .before .before .before .before .before in
+    let d = j .before .before .before .before .before .before .before .before .before .before .before in
     let p = d .before .before .before .before .before .before .before .before .pre in
     let C = d .before .before .before .before .classes .ensures in
     let L = d .tabulate .ensures .0 in
@@ -58,7 +71,11 @@ returns c =
     let S = c .before .before .before .before .before .before .before .spread-classes .ensures in (
       into-all (p .0) C L (S .0),
       A,
-      pair-clear (p .0) C L (S .0) (λ j. omega (arith, d .before .before .before .before .before .before .before .shared-slice-known .given j)) (p .2) A (p .1) (c .before .before .before .before .before .before .before .before .before .before .before .before .before .before .before .join-rows .ensures) (c .before .before .before .before .before .before .read-row .ensures) (S .1) (c .before .before .before .before .before .apart .ensures) (c .sift .ensures),
+      pair-clear (p .0) C L (S .0)
+          (λ j. omega (arith, d .before .before .before .before .before .before .before .shared-slice-known .given j)) (p .2) A (p .1)
+          (j .before .before .before .before .before .join-rows .ensures)
+          (c .before .before .before .before .before .before .read-row .ensures) (S .1)
+          (c .before .before .before .before .before .apart .ensures) (c .sift .ensures),
     )
 
 pub suspects-spec : {M : Type 1} → statement M

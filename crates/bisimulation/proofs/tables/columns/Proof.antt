@@ -48,12 +48,20 @@ loop-again : tie.Need-loop-again Inv-loop μ-loop
 loop-again c =
     let d = c .before .before .before .before in
     let i = d .before .before .before .before .loop .inv in
-    let s = d .before .before .row-stretch .ensures in
-    (i .0, i .1, s .within, columns-more (d .before .before .before .before .before .before .args .relation .now) (d .before .before .before .before .before .before .args .among) _ (i .3) s (d .before .read-row .ensures) (d .intersection .ensures) (c .before .before .between .ensures) (c .before .spread-over .ensures))
+    let s = d .before .before .row-stretch .ensures in (
+      i .0,
+      i .1,
+      s .within,
+      columns-more (d .before .before .before .before .before .before .args .relation .now)
+          (d .before .before .before .before .before .before .args .among) _ (i .3) s (d .before .read-row .ensures)
+          (d .intersection .ensures) (c .before .before .between .ensures) (c .before .spread-over .ensures),
+    )
 
 returns : tie.Need-returns Inv-loop μ-loop
 returns c =
-    let i = c .before .loop .inv in let e : c .before .loop .u ≡ c .before .before .before .args .rows = omega (arith, i .2, c .loop-test .left) in columns-all _ _ (i .0) (rw e at (i .3))
+    let i = c .before .loop .inv in
+    let e : c .before .loop .u ≡ c .before .before .before .args .rows = omega (arith, i .2, c .loop-test .left) in
+    columns-all _ _ (i .0) (rw e at (i .3))
 
 pub columns-spec : {M : Type 1} → statement M
 columns-spec =

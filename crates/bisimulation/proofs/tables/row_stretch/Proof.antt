@@ -37,7 +37,14 @@ loop-less c = search needs
 loop-again : tie.Need-loop-again Inv-loop μ-loop
 loop-again c =
     let d = c .before .before .before in
-    let i = d .loop .inv in (i .0, i .1, omega arith, omega arith, between-more (SameRow (d .before .before .args .relation .now) (d .before .before .args .u)) _ (i .4) (c .before .same-row .ensures (not-false _ (c .if1 .left))))
+    let i = d .loop .inv in (
+      i .0,
+      i .1,
+      omega arith,
+      omega arith,
+      between-more (SameRow (d .before .before .args .relation .now) (d .before .before .args .u)) _ (i .4)
+          (c .before .same-row .ensures (not-false _ (c .if1 .left))),
+    )
 
 returns-2 : tie.Need-returns-2 Inv-loop μ-loop
 returns-2 c = let i = c .before .loop .inv in record { some = i .2; within = i .3; each = i .4 }

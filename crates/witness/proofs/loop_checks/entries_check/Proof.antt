@@ -63,8 +63,13 @@ closure-from-requires c κs =
     let l = c .before .before .before in
     let i = l .loop .inv in
     let p = l .before .before .before .before .before .before .before .before .before .before .before .pre in
-    let T = p .1 .2 in
-    (T .of-branches .long, T .after-long, rw (p .3) (T .of-after), p .2, λ x y h e. inl (bodies-closed (i .0) (T .of-branches) (i .4) x y h e))
+    let T = p .1 .2 in (
+      T .of-branches .long,
+      T .after-long,
+      rw (p .3) (T .of-after),
+      p .2,
+      λ x y h e. inl (bodies-closed (i .0) (T .of-branches) (i .4) x y h e),
+    )
 
 intersection-requires : tie.Need-intersection-requires Inv-loop μ-loop
 intersection-requires c κs = search needs

@@ -46,8 +46,16 @@ loop-holds c =
     let k = e .before in
     let p = k .before .before .pre in
     let w = well-formed _ (p .0 .passed) in
-    let B : Bytes (k .before .before .args .labels .now) = λ j. omega (arith, k .shared-slice-known2 .given j) in
-    (p .0, p .1, B, c .before .row .ensures, left-all (c .lowest .ensures), past-none w B (p .1) (c .before .row .ensures), omega arith, nothing-closed _ (e .empty .ensures))
+    let B : Bytes (k .before .before .args .labels .now) = λ j. omega (arith, k .shared-slice-known2 .given j) in (
+      p .0,
+      p .1,
+      B,
+      c .before .row .ensures,
+      left-all (c .lowest .ensures),
+      past-none w B (p .1) (c .before .row .ensures),
+      omega arith,
+      nothing-closed _ (e .empty .ensures),
+    )
 
 mul-level : tie.Need-mul-level Inv-loop μ-loop
 mul-level c = search needs
@@ -108,8 +116,16 @@ loop-again c =
     let t = k .before .before .before .before .before .before in
     let i = t .before .loop .inv in
     let T = left-next (i .4) (t .loop-test .taken) (c .before .without-lowest .ensures) in
-    let said = subst (VertexSaid _ _) (c .before .before .enum-told .given .1) (k .vertex-check .ensures) in
-    (i .0, i .1, i .2, i .3, left-after T (c .lowest2 .ensures), past-more (i .5) T said, t .loop-test .taken, k .before .surrounding .ensures .1)
+    let said = subst (VertexSaid _ _) (c .before .before .enum-told .given .1) (k .vertex-check .ensures) in (
+      i .0,
+      i .1,
+      i .2,
+      i .3,
+      left-after T (c .lowest2 .ensures),
+      past-more (i .5) T said,
+      t .loop-test .taken,
+      k .before .surrounding .ensures .1,
+    )
 
 returns-2 : tie.Need-returns-2 Inv-loop μ-loop
 returns-2 c = let i = c .before .loop .inv in past-end (i .5) (left-none (i .4) (c .loop-test .left))

@@ -22,10 +22,17 @@ with-bit-requires-2 : tie.Need-with-bit-requires-2
 with-bit-requires-2 c κs = search needs
 
 returns-2 : tie.Need-returns-2
-returns-2 c = let k = c .before .before .before .before .before .before in let h = c .before .highest-bit2 .ensures in (highest-low (k .args .other) _ (c .before .before .before .before .if1 .left) h, with-low (k .args .self) _ _ (h .within) (c .with-bit2 .ensures))
+returns-2 c =
+    let k = c .before .before .before .before .before .before in
+    let h = c .before .highest-bit2 .ensures in (
+      highest-low (k .args .other) _ (c .before .before .before .before .if1 .left) h,
+      with-low (k .args .self) _ _ (h .within) (c .with-bit2 .ensures),
+    )
 
 returns-3 : tie.Need-returns-3
-returns-3 c = let k = c .before .before .before .before in absurd (k .pre (words-zero (k .args .other) (c .if2 .left) (c .before .before .if1 .left)))
+returns-3 c =
+    let k = c .before .before .before .before in
+    absurd (k .pre (words-zero (k .args .other) (c .if2 .left) (c .before .before .if1 .left)))
 
 pub with-highest-spec : {M : Type 1} → statement M
 with-highest-spec =
