@@ -2,10 +2,10 @@
 use mathlib.Core.Path.{_≡_, refl, sym, _∙_, ap, subst}
 use mathlib.Core.Logic.{_≢_, _⊎_, inl, inr, ⊎-elim, _↔_, by-cases}
 use mathlib.Core.Bool.{Bool, true, false, cond}
-use mathlib.Core.List.{List}
-use Prim.Native.Nat.{ℕ, zero, suc, _+_, _-_, _*_, _/_, _%_, _^_, _≤_, _<_}
+use mathlib.Core.List.{List, [], _∷_}
+use Prim.Native.Nat.{ℕ, zero, suc, _+_, _-_, _*_, _/_, _%_, _≤_, _<_}
 use native.Mathlib.Omega.{arith}
-use native.Mathlib.Decide.{ℕ-discrete}
+use native.Mathlib.Decide.{ℕ-discrete, decLt}
 use borrow.Author.Tests.{ltb-true, ltb-false}
 use lib.Dec.{ltb}
 use lib.ListN.{length, getD, set, length-set, replicate, length-replicate}
@@ -13,8 +13,8 @@ use lib.Seq.{getD-set-same, getD-set-other, ext-getD}
 use Rattle.bits.specs.declared.sets.Set.{Set}
 use Rattle.bits.specs.Words.{On, With, Without}
 use Rattle.bits.specs.Sets.{Has, emptySet, Members, Union, SetFits}
-use Rattle.bits.specs.Tables.{rowOf, HasRow, putRow, Words, Table, Gains, When, Above, InSome, InFirst}
-use Rattle.bits.proofs.Members.{⊎-map, zero-off, none, words-zero, one-set}
+use Rattle.bits.specs.Tables.{rowOf, HasRow, putRow, Words, Table, TableOf, Gains, When, Above, InFirst}
+use Rattle.bits.proofs.Members.{⊎-map, zero-off, none, one-set}
 
 -- a list of one number
 pub filled : (n x w : ℕ) → w < n → getD (replicate {A = ℕ} n x) w 0 ≡ x
@@ -27,6 +27,12 @@ pub blank : (n w : ℕ) → getD (replicate {A = ℕ} n 0) w 0 ≡ 0
 blank zero w = refl
 blank (suc n) zero = refl
 blank (suc n) (suc w) = blank n w
+
+-- past a list's end
+pub beyond : (a : List ℕ) (i : ℕ) → length a ≤ i → getD a i 0 ≡ 0
+beyond [] i h = refl
+beyond (x ∷ a) zero h = absurd (omega (arith, h))
+beyond (x ∷ a) (suc i) h = beyond a i (omega (arith, h))
 
 -- ROWS. A set of a table, by the word that has the number's bit
 row-word : (a : List ℕ) (v w : ℕ) → w < 128 → cond (ltb w 64) (getD a (2 * v) 0) (getD a (2 * v + 1) 0) ≡ getD a (2 * v + w / 64) 0
@@ -51,6 +57,11 @@ same-row a b v w e f = rw (e, f)
 pub blank-row : (m x : ℕ) → rowOf (replicate m 0) x ≡ emptySet
 unfolding rowOf
 blank-row m x = rw (blank m (2 * x), blank m (2 * x + 1))
+
+-- nor in a row that the table has not
+pub row-beyond : (a : List ℕ) (x : ℕ) → length a ≤ 2 * x → rowOf a x ≡ emptySet
+unfolding rowOf
+row-beyond a x h = rw (beyond a (2 * x) h, beyond a (2 * x + 1) (omega (arith, h)))
 
 -- a set that is put into a table
 pub put-long : (a : List ℕ) (v : ℕ) (s : Set) → length (putRow a v s) ≡ length a
@@ -171,6 +182,36 @@ table-as f T = record {
   exactly = λ x y h l. (λ g. f x y h l .0 (T .exactly x y h l .0 g), λ q. T .exactly x y h l .1 (f x y h l .1 q));
 }
 
+-- the same of a table of any length, where nothing comes to sets that it has not
+pub blank-table : {P : ℕ → ℕ → Type 0} (n m : ℕ) → m ≡ 2 * n → ((x y : ℕ) → ¬ P x y) → TableOf P (replicate m 0)
+blank-table n m e f = record
+    { whole = (n, length-replicate {A = ℕ} m 0 ∙ e); exactly = λ x y l. (λ h. absurd (no-row m x y h), λ p. absurd (f x y p)) }
+
+pub table-of-as : {P Q : ℕ → ℕ → Type 0} {a : List ℕ} → ((x y : ℕ) → y < 128 → P x y ↔ Q x y) → TableOf P a → TableOf Q a
+table-of-as f T = record {
+  whole = T .whole;
+  exactly = λ x y l. (λ g. f x y l .0 (T .exactly x y l .0 g), λ q. T .exactly x y l .1 (f x y l .1 q));
+}
+
+pub table-of-gains : {P Q : ℕ → ℕ → Type 0} {a r : List ℕ} → TableOf P a → Gains Q a r
+    → ((x y : ℕ) → length a ≤ 2 * x → ¬ Q x y) → TableOf (λ (x y : ℕ). P x y ⊎ Q x y) r
+table-of-gains {P} {Q} {a} {r} T G f = record {
+  whole = (T .whole .0, G .long ∙ T .whole .1);
+  exactly = λ x y l. by-cases (decLt (2 * x) (length a)) (inside x y l)
+      (outside x y l);
+}
+  where
+    inside : (x y : ℕ) → y < 128 → 2 * x < length a → HasRow r x y ↔ (P x y ⊎ Q x y)
+    inside x y l h = let E = G .exactly x y (omega (arith, h, T .whole .1)) l in
+        (λ g. ⊎-map (T .exactly x y l .0) (λ q. q) (E .0 g), λ g. E .1 (⊎-map (T .exactly x y l .1) (λ q. q) g))
+
+    outside : (x y : ℕ) → y < 128 → ¬ (2 * x < length a) → HasRow r x y ↔ (P x y ⊎ Q x y)
+    outside x y l h = (
+      λ g. absurd (none y (rw (row-beyond r x (omega (arith, h, G .long))) at g)),
+      ⊎-elim (λ p. absurd (none y (rw (row-beyond a x (omega (arith, h))) at (T .exactly x y l .1 p))))
+          (λ q. absurd (f x y (omega (arith, h)) q)),
+    )
+
 -- more has come into it
 pub table-gains : {n : ℕ} {P Q : ℕ → ℕ → Type 0} {a r : List ℕ} → Table n P a → Gains Q a r → Table n (λ (x y : ℕ). P x y ⊎ Q x y) r
 table-gains T G = record {
@@ -223,28 +264,29 @@ module _ {a t : List ℕ} {v x : ℕ} {s : Set} {rest : ℕ} (S : Spreading a v 
   pub spread-all : rest ≡ 0 → Gains (λ (w z : ℕ). Above v x w × Has s z) a t
   spread-all e = gains-as (λ w z l. ((λ ((k, f, h, n), g). ((k, f, h), g)), (λ ((k, f, h), g). ((k, f, h, λ o. zero-off k (rw e at o)), g)))) (S .gains)
 
--- `united`: the sets so far, and those still to come
-pub record Uniting (a : List ℕ) (x rest : ℕ) (s : Set) : Type 0 where
+-- `united` and `united_from`: the sets so far, and those still to come; bit i is that of set f i
+pub record Uniting (a : List ℕ) (f : ℕ → ℕ) (x rest : ℕ) (s : Set) : Type 0 where
   pub left : (i : ℕ) → On rest i → On x i
-  pub only : (w : ℕ) → Has s w → InSome a x w
-  pub come : (w i : ℕ) → On x i → HasRow a i w → Has s w ⊎ On rest i
+  pub only : (w : ℕ) → Has s w → (i : ℕ) × On x i × HasRow a (f i) w
+  pub come : (w i : ℕ) → On x i → HasRow a (f i) w → Has s w ⊎ On rest i
 
-pub unite-none : (a : List ℕ) (x : ℕ) {s : Set} → s ≡ emptySet → Uniting a x x s
-unite-none a x e = record { left = λ i h. h; only = λ w h. absurd (none w (rw e at h)); come = λ w i h g. inr h }
+pub unite-none : (a : List ℕ) (f : ℕ → ℕ) (x : ℕ) {s : Set} → s ≡ emptySet → Uniting a f x x s
+unite-none a f x e = record { left = λ i h. h; only = λ w h. absurd (none w (rw e at h)); come = λ w i h g. inr h }
 
-module _ {a : List ℕ} {x rest : ℕ} {s : Set} (S : Uniting a x rest s) where
-  pub unite-more : {i rest′ : ℕ} {q r : Set} → On rest i → q ≡ rowOf a i → Union s q r → Without rest i rest′ → Uniting a x rest′ r
+module _ {a : List ℕ} {f : ℕ → ℕ} {x rest : ℕ} {s : Set} (S : Uniting a f x rest s) where
+  pub unite-more : {i rest′ : ℕ} {q r : Set} → On rest i → q ≡ rowOf a (f i) → Union s q r → Without rest i rest′ → Uniting a f x rest′ r
   unite-more {i} {rest′} {q} {r} on e U W = record {
     left = λ j h. S .left j (taken-less W j h);
     only = λ w h. ⊎-elim (S .only w) (λ g. (i, S .left i on, rw e at g)) (U w .0 h);
     come = λ w j h k. come w j k (S .come w j h k);
   }
     where
-      come : (w j : ℕ) → HasRow a j w → Has s w ⊎ On rest j → Has r w ⊎ On rest′ j
+      come : (w j : ℕ) → HasRow a (f j) w → Has s w ⊎ On rest j → Has r w ⊎ On rest′ j
       come w j k (inl h) = inl (U w .1 (inl h))
-      come w j k (inr h) = elim (taken-or W j h) [ inl f ↦ inl (U w .1 (inr (rw e (subst (λ (n : ℕ). HasRow a n w) f k)))) | inr o ↦ inr o ]
+      come w j k (inr h) = elim
+          (taken-or W j h) [ inl g ↦ inl (U w .1 (inr (rw e (subst (λ (n : ℕ). HasRow a (f n) w) g k)))) | inr o ↦ inr o ]
 
-  pub unite-all : rest ≡ 0 → Members (InSome a x) s
+  pub unite-all : rest ≡ 0 → Members (λ (w : ℕ). (i : ℕ) × On x i × HasRow a (f i) w) s
   unite-all e = record { exactly = λ w m. (S .only w, λ (i, h, k). ⊎-elim (λ g. g) (λ o. absurd (zero-off i (rw e at o))) (S .come w i h k)) }
 
 -- `union_of`: no set, and one more
@@ -263,6 +305,24 @@ union-more a v {s} {q} {r} M e U = record { exactly = λ w l. ((λ h. there w l 
         by-cases (ℕ-discrete x v)
         (λ f. U w .1 (inr (rw e (subst (λ (y : ℕ). HasRow a y w) f h))))
         (λ f. U w .1 (inl (M .exactly w l .1 (x, omega arith, h))))
+
+-- `clear`: the first i words are 0
+pub record ZeroTo (a : List ℕ) (i : ℕ) : Type 0 where
+  pub each : (j : ℕ) → j < i → getD a j 0 ≡ 0
+
+pub zero-none : (a : List ℕ) → ZeroTo a 0
+zero-none a = record { each = λ j h. absurd (omega (arith, h)) }
+
+pub zero-more : {a : List ℕ} {i : ℕ} → ZeroTo a i → i < length a → ZeroTo (set a i 0) (i + 1)
+zero-more {a} {i} Z l = record {
+  each = λ j h. by-cases (ℕ-discrete j i)
+      (λ e. rw e (getD-set-same a i 0 0 l))
+      (λ n. getD-set-other a i j 0 0 n ∙ Z .each j (omega (arith, h, n)));
+}
+
+pub zero-all : {a : List ℕ} {i n : ℕ} → ZeroTo a i → length a ≤ i → length a ≡ n → a ≡ replicate n 0
+zero-all {a} {i} {n} Z h e = ext-getD 0 a (replicate n 0) (e ∙ sym (length-replicate {A = ℕ} n 0))
+    (λ j l. Z .each j (omega (arith, l, h)) ∙ sym (blank n j))
 
 -- ONE TABLE: what a table has determines its words
 row-fits : (a : List ℕ) (x : ℕ) → Words a → SetFits (rowOf a x)

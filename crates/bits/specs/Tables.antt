@@ -20,6 +20,10 @@ HasRow a v w = Has (rowOf a v) w
 unfoldable pub putRow : List ℕ → ℕ → Set → List ℕ
 putRow a v s = set (set a (2 * v) (s .lo)) (2 * v + 1) (s .hi)
 
+-- it has no word that belongs to no set
+abbrev pub WholeSets : List ℕ → Type 0
+WholeSets a = (n : ℕ) × (length a ≡ 2 * n)
+
 -- its words have 64 bits, as those of every table that runs have
 abbrev pub Words : List ℕ → Type 0
 Words a = (i : ℕ) → getD a i 0 < 2 ^ 64
@@ -28,6 +32,11 @@ Words a = (i : ℕ) → getD a i 0 < 2 ^ 64
 pub record Table (n : ℕ) (P : ℕ → ℕ → Type 0) (a : List ℕ) : Type 0 where
   pub long : length a ≡ 2 * n
   pub exactly : (x y : ℕ) → x < n → y < 128 → HasRow a x y ↔ P x y
+
+-- a has whole sets, and set x has the numbers y with P x y; a set that it has not has nothing
+pub record TableOf (P : ℕ → ℕ → Type 0) (a : List ℕ) : Type 0 where
+  pub whole : WholeSets a
+  pub exactly : (x y : ℕ) → y < 128 → HasRow a x y ↔ P x y
 
 -- r has what the table a has, and those y in set x with P x y; a last word that belongs to no set stays
 pub record Gains (P : ℕ → ℕ → Type 0) (a r : List ℕ) : Type 0 where
@@ -46,6 +55,10 @@ Above v x w = (k : ℕ) × (w ≡ v + k) × On x k
 -- some set of the table for a bit of x has w
 abbrev pub InSome : List ℕ → ℕ → ℕ → Type 0
 InSome a x w = (i : ℕ) × On x i × HasRow a i w
+
+-- some set v + k of the table for a bit k of x has w
+abbrev pub InSomeFrom : List ℕ → ℕ → ℕ → ℕ → Type 0
+InSomeFrom a v x w = (k : ℕ) × On x k × HasRow a (v + k) w
 
 -- one of the first n sets of the table has w
 abbrev pub InFirst : List ℕ → ℕ → ℕ → Type 0

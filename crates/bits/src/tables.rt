@@ -8,10 +8,10 @@ ghost use mathlib.Core.Path.{_≡_};
 ghost use mathlib.Core.Bool.{true};
 ghost use mathlib.Core.Logic.{_↔_};
 ghost use Prim.Native.Nat.{ℕ, _+_, _*_, _≤_, _<_};
-ghost use lib.ListN.{length};
+ghost use lib.ListN.{length, replicate};
 ghost use Rattle.bits.specs.Words.{On};
 ghost use Rattle.bits.specs.Sets.{Has, Members};
-ghost use Rattle.bits.specs.Tables.{rowOf, HasRow, putRow, Gains, Above, InSome, InFirst};
+ghost use Rattle.bits.specs.Tables.{WholeSets, rowOf, HasRow, putRow, Gains, Above, InSome, InSomeFrom, InFirst};
 
 // Set v of a table.
 pub fn row(table: &[u64], v: usize) -> Set
@@ -30,6 +30,17 @@ pub fn in_row(table: &[u64], v: usize, w: usize) -> bool
     ensures { λ r. ⌜ (r ≡ true) ↔ HasRow (now (table .entry)) v w ⌝ }
 {
     is_set(table[2 * v + w / 64], w % 64)
+}
+
+// Set v of a table, or nothing where the table has no set v.
+pub fn row_or_empty(table: &[u64], v: usize) -> Set
+    requires { ⌜ WholeSets (now table) ⌝ }
+    ensures { λ r. ⌜ r ≡ rowOf (now (table .entry)) v ⌝ }
+{
+    if v >= table.len() / 2 {
+        return Set::empty();
+    }
+    row(table, v)
 }
 
 // Set v of a table becomes this set.
@@ -97,4 +108,30 @@ pub fn union_of(table: &[u64], n: usize) -> Set
         v += 1;
     }
     all
+}
+
+// The union of the sets v + k of a table, for each bit k of x, where it has them.
+pub fn united_from(table: &[u64], v: usize, x: u64) -> Set
+    requires { ⌜ WholeSets (now table) × (v ≤ 64) ⌝ }
+    ensures { λ r. ⌜ Members (InSomeFrom (now (table .entry)) v x) r ⌝ }
+{
+    let mut all = Set::empty();
+    let mut left = x;
+    while left != 0 {
+        all = all.union(row_or_empty(table, v + lowest_bit(left)));
+        left = without_lowest(left);
+    }
+    all
+}
+
+// All words of a table become 0.
+pub fn clear(table: &mut [u64])
+    ensures { λ _. ⌜ now (table .exit) ≡ replicate (length (now (table .entry))) 0 ⌝ }
+{
+    let n = table.len();
+    let mut i: usize = 0;
+    while i < n {
+        table[i] = 0;
+        i += 1;
+    }
 }

@@ -1,28 +1,27 @@
 -- The search along a table of successors.
-use mathlib.Core.Path.{_≡_, refl, sym, _∙_, subst}
-use mathlib.Core.Logic.{_≢_, _⊎_, inl, inr, ⊎-elim, _↔_}
+use mathlib.Core.Path.{_≡_, refl, sym, _∙_, ap, subst}
+use mathlib.Core.Logic.{_≢_, _⊎_, inl, inr, ⊎-elim, _↔_, by-cases}
 use mathlib.Core.Bool.{Bool, true, false}
 use mathlib.Core.List.{List}
 use Prim.Native.Nat.{ℕ, _+_, _-_, _*_, _≤_, _<_}
 use native.Mathlib.Omega.{arith}
 use native.Mathlib.Decide.{ℕ-discrete, decLt}
 use borrow.Author.Count.{below-more}
-use lib.ListN.{length, take, drop, replicate, length-drop}
-use lib.Seq.{take-all, getD-drop}
+use lib.ListN.{length, replicate, length-replicate}
 use Rattle.bits.specs.declared.sets.Set.{Set}
 use Rattle.bits.specs.First.{First}
 use Rattle.bits.specs.Sets.{Has, emptySet, Empty, Members, Union, Difference, Last, SetFits, sizeOf}
-use Rattle.bits.specs.Tables.{rowOf, HasRow, putRow, Words, InSome}
+use Rattle.bits.specs.Tables.{WholeSets, rowOf, HasRow, putRow, Words, InSomeFrom}
 use Rattle.bits.proofs.Members.{none, low-has, high-has, has-low, has-high, size-lt, has?}
 use Rattle.bits.proofs.Words.{bit-below}
 use Rattle.bits.proofs.Determined.{first-one}
 use Rattle.bits.proofs.Gains.{put-long, put-here, put-other, same-table}
 use Rattle.theory.specs.Paths.{Edges, Star, here, step, Plus, last, more, Avoid}
 use Rattle.theory.proofs.Search.{look-below}
-use Rattle.theory.proofs.Paths.{star-then, star-snoc, star-map, plus-of, plus-snoc}
+use Rattle.theory.proofs.Paths.{star-then, star-snoc, star-map, plus-of, plus-snoc, plus-star, plus-then, star-cases}
 use Rattle.chart.specs.declared.sets.Search.{Search}
 use Rattle.chart.specs.Sets.{Leads, LedTo, FromSet, Closed, ClosedBut, InOrFrom, Known, Jumps, Visited}
-use Rattle.chart.specs.Sets.{OnCycle, turnOf, beginOf, endOf, Searched, Cycles}
+use Rattle.chart.specs.Sets.{OnCycle, ReachedIn, TurnReaches, turnOf, beginOf, endOf, Searched, Cycles}
 
 -- a set that is not empty has a member
 pub some-member : (s : Set) → ¬ Empty s → (w : ℕ) × Has s w
@@ -171,29 +170,24 @@ module _ {a : List ℕ} {stop : ℕ} {from seen past left past′ : Set} (I : Se
   pub round-less : ¬ Empty left → sizeOf past < sizeOf past′
   round-less n = let (w, h) = some-member left n in size-lt past past′ w (λ y g. P y .1 (inl g)) (P w .1 (inr h)) (D w .0 h .1)
 
--- the table from its set 64 on
-upper : (a : List ℕ) (i : ℕ) → rowOf (take (length a - 128) (drop 128 a)) i ≡ rowOf a (64 + i)
-unfolding rowOf
-upper a i =
-    let all = take-all (length a - 128) (drop 128 a) (omega (arith, length-drop 128 a)) in
-    let e : 128 + 2 * i ≡ 2 * (64 + i) = omega arith in
-    let f : 128 + (2 * i + 1) ≡ 2 * (64 + i) + 1 = omega arith in
-    rw (all, getD-drop 128 a (2 * i) 0, getD-drop 128 a (2 * i + 1) 0, e, f)
-
 -- the sets of the members below 64, and those of the others
-pub led-to : (a : List ℕ) (s : Set) {lo hi r : Set} → SetFits s → Members (InSome a (s .lo)) lo
-    → Members (InSome (take (length a - 128) (drop 128 a)) (s .hi)) hi → Union lo hi r → Members (LedTo a s) r
+pub led-to : (a : List ℕ) (s : Set) {lo hi r : Set} → SetFits s → Members (InSomeFrom a 0 (s .lo)) lo
+    → Members (InSomeFrom a 64 (s .hi)) hi → Union lo hi r → Members (LedTo a s) r
 led-to a s {lo} {hi} F L H U = record { exactly = λ y l. (λ h. to y l (U y .0 h), λ (x, h, g). U y .1 (from y l x h g)) }
   where
+    first : (i : ℕ) → 0 + i ≡ i
+    first i = omega arith
+
     to : (y : ℕ) → y < 128 → Has lo y ⊎ Has hi y → LedTo a s y
-    to y l (inl h) = let (i, on, g) = L .exactly y l .0 h in (i, low-has s i (bit-below 64 (s .lo) i (F .0) on) on, g)
+    to y l (inl h) = let (i, on, g) = L .exactly y l .0 h in
+        (i, low-has s i (bit-below 64 (s .lo) i (F .0) on) on, subst (λ (z : ℕ). HasRow a z y) (first i) g)
     to y l (inr h) =
         let (i, on, g) = H .exactly y l .0 h in
-        (64 + i, high-has s i (bit-below 64 (s .hi) i (F .1) on) on, rw (upper a i) at g)
+        (64 + i, high-has s i (bit-below 64 (s .hi) i (F .1) on) on, g)
 
     from : (y : ℕ) → y < 128 → (x : ℕ) → Has s x → HasRow a x y → Has lo y ⊎ Has hi y
     from y l x h g = elim (decLt x 64) [
-      | yes k ↦ inl (L .exactly y l .1 (x, has-low s x k h, g))
+      | yes k ↦ inl (L .exactly y l .1 (x, has-low s x k h, subst (λ (z : ℕ). HasRow a z y) (sym (first x)) g))
       | no k ↦ inr (past-64 y l (x - 64) (subst (Has s) (above x k) h) (subst (λ (z : ℕ). HasRow a z y) (above x k) g))
     ]
       where
@@ -201,11 +195,11 @@ led-to a s {lo} {hi} F L H U = record { exactly = λ y l. (λ h. to y l (U y .0 
         above x k = omega (arith, k)
 
         past-64 : (y : ℕ) → y < 128 → (i : ℕ) → Has s (64 + i) → HasRow a (64 + i) y → Has hi y
-        past-64 y l i h g = H .exactly y l .1 (i, has-high s i (omega (arith, h .below)) h, rw (upper a i) g)
+        past-64 y l i h g = H .exactly y l .1 (i, has-high s i (omega (arith, h .below)) h, g)
 
 -- the search from the successors of w, stopping at w
 module _ (a : List ℕ) (w : ℕ) (r : Set) (l : w < 128) (C : Members (FromSet (Avoid w (Leads a)) (rowOf a w)) r) where
-  pub met-plus : (y : ℕ) → Has r y → Plus (Leads a) w y
+  met-plus : (y : ℕ) → Has r y → Plus (Leads a) w y
   met-plus y h = let f = C .exactly y (h .below) .0 h in plus-of (record { from = l; has = f .1 }) (star-map (λ u x e. e .1) (f .2))
 
   module _ (not : ¬ Has r w) where
@@ -216,23 +210,103 @@ module _ (a : List ℕ) (w : ℕ) (r : Set) (l : w < 128) (C : Members (FromSet 
     along {x} {y} (last e) h = onward x y h e
     along {x} (more {w = z} e p) h = along p (onward x z h e)
 
-    pub plus-met : {y : ℕ} → Plus (Leads a) w y → Has r y
+    plus-met : {y : ℕ} → Plus (Leads a) w y → Has r y
     plus-met {y} (last e) = C .exactly y (e .has .below) .1 (y, e .has, here)
     plus-met (more {w = z} e p) = along p (C .exactly z (e .has .below) .1 (z, e .has, here))
 
-    pub known-more : (after : List ℕ) (b t c u : ℕ) → length after ≡ 256 → Known a after b t → ((x : ℕ) → x ≢ w → c ≤ x → x < u → (b ≤ x) × (x < t)) → Known a (putRow after w r) c u
-    known-more after b t c u long K G = record { exactly = λ x y p q i. pick x y p q i (ℕ-discrete x w) }
-      where
-        at-w : rowOf (putRow after w r) w ≡ r
-        at-w = put-here after w r (omega (arith, long, l))
+  -- so it tells of the turn of w
+  pub met-turn : TurnReaches a w r
+  met-turn = record { cyclic = met-plus w; exactly = λ n y. (met-plus y, plus-met n) }
 
-        pick : (x y : ℕ) → c ≤ x → x < u → x < 128 → Dec (x ≡ w) → HasRow (putRow after w r) x y ↔ Plus (Leads a) x y
-        pick x y p q i (yes e) = subst (λ (z : ℕ). HasRow (putRow after w r) z y ↔ Plus (Leads a) z y) (sym e) ((λ k. met-plus y (rw at-w at k)), (λ p. rw at-w (plus-met p)))
-        pick x y p q i (no n) =
-            let o = put-other after w r x n in
-            let g = G x n p q in
-            let k = K .exactly x y (g .0) (g .1) i in
-            ((λ z. k .0 (rw o at z)), (λ p. rw o (k .1 p)))
+-- the members of a set that are left, and what the others reach: it is there, or what another reaches that reaches them
+pub record Joining (after : List ℕ) (set all left : Set) : Type 0 where
+  pub some : (x : ℕ) → Has left x → Has set x
+  pub given : (y : ℕ) → Has set y → Has all y
+  pub only : (y : ℕ) → Has all y → Has set y ⊎ ((x : ℕ) × Has set x × HasRow after x y)
+  pub gone : (x : ℕ) → Has set x → ¬ Has left x
+      → (z : ℕ) × Has set z × ((z ≡ x) ⊎ HasRow after z x) × ((y : ℕ) → HasRow after z y → Has all y)
+
+pub join-none : {after : List ℕ} {set : Set} → Joining after set set set
+join-none = record { some = λ x h. h; given = λ y h. h; only = λ y h. inl h; gone = λ x h n. absurd (n h) }
+
+module _ {after : List ℕ} {set all left : Set} (J : Joining after set all left) where
+  pub join-more : {w : ℕ} {one extra both all′ left′ : Set} → Last left w → ((y : ℕ) → Has one y ↔ (Has emptySet y ⊎ (y ≡ w)))
+      → extra ≡ rowOf after w → Union all extra all′ → Union one extra both → Difference left both left′ → Joining after set all′ left′
+  join-more {w} {one} {extra} {both} {all′} {left′} L O e A B D = record {
+    some = λ x h. J .some x (D x .0 h .0);
+    given = λ y h. A y .1 (inl (J .given y h));
+    only = λ y h. ⊎-elim (J .only y) (λ g. inr (w, J .some w (L .has), rw e at g)) (A y .0 h);
+    gone = λ x h n. by-cases (has? left x) (taken x h n) (λ k. let (z, g, i, f) = J .gone x h k in (z, g, i, λ y q. A y .1 (inl (f y q))));
+  }
+    where
+      come : (y : ℕ) → HasRow after w y → Has all′ y
+      come y q = A y .1 (inr (rw e q))
+
+      taken : (x : ℕ) → Has set x → ¬ Has left′ x → Has left x
+          → (z : ℕ) × Has set z × ((z ≡ x) ⊎ HasRow after z x) × ((y : ℕ) → HasRow after z y → Has all′ y)
+      taken x h n k = by-cases (has? both x)
+          (λ i. (
+            w,
+            J .some w (L .has),
+            ⊎-elim (λ o. inl (sym (⊎-elim (λ q. absurd (none x q)) (λ q. q) (O x .0 o))))
+                (λ q. inr (rw e at q)) (B x .0 i),
+            come,
+          ))
+          (λ i. absurd (n (D x .1 (k, i))))
+
+  pub join-less : {w : ℕ} {one extra both left′ : Set} → Last left w → ((y : ℕ) → Has one y ↔ (Has emptySet y ⊎ (y ≡ w)))
+      → Union one extra both → Difference left both left′ → sizeOf left′ < sizeOf left
+  join-less {w} {one} {left′ = left′} L O B D =
+      size-lt left′ left w (λ y g. D y .0 g .0) (L .has) (λ h. D w .0 h .1 (B w .1 (inl (O w .1 (inr refl)))))
+
+  pub join-all : Empty left → (a : List ℕ) → ReachedIn a after set → Members (FromSet (Leads a) set) all
+  join-all E a R = record { exactly = λ y l. (to y, from y) }
+    where
+      to : (y : ℕ) → Has all y → FromSet (Leads a) set y
+      to y h = ⊎-elim (λ g. (y, g, here)) (λ (x, g, q). (x, g, plus-star (R .exactly x y g .0 q))) (J .only y h)
+
+      from : (y : ℕ) → FromSet (Leads a) set y → Has all y
+      from y (x, h, p) = ⊎-elim
+          (λ e. J .given y (subst (Has set) e h))
+          (λ q. let (z, g, i, f) = J .gone x h (E x) in
+          f y (R .exactly z y g .1
+          (⊎-elim (λ e. subst (λ (u : ℕ). Plus (Leads a) u y) (sym e) q) (λ k. plus-then (R .exactly z x g .0 k) q) i)))
+          (star-cases p)
+
+-- where all that w leads to is known, what that reaches tells of the turn of w
+pub joined-turn : {a : List ℕ} {w : ℕ} {r : Set} → w < 128 → Members (FromSet (Leads a) (rowOf a w)) r → TurnReaches a w r
+joined-turn {a} {w} {r} l M = record { cyclic = to w; exactly = λ n y. (to y, from y) }
+  where
+    to : (y : ℕ) → Has r y → Plus (Leads a) w y
+    to y h = let (x, g, p) = M .exactly y (h .below) .0 h in plus-of (record { from = l; has = g }) p
+
+    from : (y : ℕ) → Plus (Leads a) w y → Has r y
+    from y (last e) = M .exactly y (e .has .below) .1 (y, e .has, here)
+    from y (more {w = z} e p) = M .exactly y (plus-below-last p) .1 (z, e .has, plus-star p)
+      where
+        plus-below-last : {u v : ℕ} → Plus (Leads a) u v → v < 128
+        plus-below-last (last d) = d .has .below
+        plus-below-last (more d q) = plus-below-last q
+
+-- what is known with the row of w too
+module _ (a : List ℕ) (w : ℕ) (r : Set) (T : TurnReaches a w r) (off : ¬ Has r w) where
+  pub known-more : (after : List ℕ) (b t c u : ℕ) → 2 * w + 2 ≤ length after → Known a after b t
+      → ((x : ℕ) → x ≢ w → c ≤ x → x < u → (b ≤ x) × (x < t)) → Known a (putRow after w r) c u
+  known-more after b t c u long K G = record { exactly = λ x y p q i. pick x y p q i (ℕ-discrete x w) }
+    where
+      at-w : rowOf (putRow after w r) w ≡ r
+      at-w = put-here after w r long
+
+      pick : (x y : ℕ) → c ≤ x → x < u → x < 128 → Dec (x ≡ w) → HasRow (putRow after w r) x y ↔ Plus (Leads a) x y
+      pick x y p q i (yes e) =
+          let k = T .exactly off y in
+          subst (λ (z : ℕ). HasRow (putRow after w r) z y ↔ Plus (Leads a) z y) (sym e)
+          ((λ g. k .0 (rw at-w at g)), (λ g. rw at-w (k .1 g)))
+      pick x y p q i (no n) =
+          let o = put-other after w r x n in
+          let g = G x n p q in
+          let k = K .exactly x y (g .0) (g .1) i in
+          ((λ z. k .0 (rw o at z)), (λ p. rw o (k .1 p)))
 
 -- the turns of the first n vertices are theirs, and each has one
 pub turn-low : (i n : ℕ) (down : Bool) → i < n → turnOf i n down < n
@@ -243,6 +317,11 @@ pub turned : (k n : ℕ) (down : Bool) → k < n → (j : ℕ) × (j < n) × (tu
 turned k n true h = (n - 1 - k, omega (arith, h), omega (arith, h))
 turned k n false h = (k, h, refl)
 
+-- the vertices of the first turns are below n
+pub end-low : (i n : ℕ) (down : Bool) → i ≤ n → endOf i n down ≤ n
+end-low i n true h = omega arith
+end-low i n false h = h
+
 -- nothing is known before the first turn, then the vertex of the turn too, and at the end all
 pub turns-none : (a after : List ℕ) (n : ℕ) (down : Bool) → Known a after (beginOf 0 n down) (endOf 0 n down)
 turns-none a after n true = record { exactly = λ x y h l. absurd (omega (arith, h, l)) }
@@ -252,22 +331,36 @@ pub turn-more : (i n w : ℕ) (down : Bool) → i < n → w ≡ turnOf i n down 
 turn-more i n w true h e x d p q = (omega (arith, h, e, d, p, q), q)
 turn-more i n w false h e x d p q = (omega arith, omega (arith, e, d, q))
 
+-- a set of vertices whose turn is past
+pub past-none : {s : Set} (i n : ℕ) (down : Bool) → s ≡ emptySet → (x : ℕ) → Has s x → (beginOf i n down ≤ x) × (x < endOf i n down)
+past-none i n down e x h = absurd (none x (rw e at h))
+
+pub past-more : {s r : Set} {w : ℕ} (i n : ℕ) (down : Bool) → i < n → w ≡ turnOf i n down
+    → ((x : ℕ) → Has s x → (beginOf i n down ≤ x) × (x < endOf i n down)) → ((x : ℕ) → Has r x ↔ (Has s x ⊎ (x ≡ w)))
+    → (x : ℕ) → Has r x → (beginOf (i + 1) n down ≤ x) × (x < endOf (i + 1) n down)
+past-more i n true h e P W x g = ⊎-elim (λ k. let (p, q) = P x k in (omega (arith, p), q))
+    (λ k. (omega (arith, k, e, h), omega (arith, k, e, h))) (W x .0 g)
+past-more i n false h e P W x g = ⊎-elim (λ k. let (p, q) = P x k in (omega arith, omega (arith, q)))
+    (λ k. (omega arith, omega (arith, k, e))) (W x .0 g)
+
 pub turns-all : {a after : List ℕ} {i n : ℕ} (down : Bool) → n ≤ i → i ≤ n → Known a after (beginOf i n down) (endOf i n down) → Known a after 0 n
 turns-all true h l K = record { exactly = λ x y p q. K .exactly x y (omega (arith, h, l)) q }
 turns-all false h l K = record { exactly = λ x y p q. K .exactly x y p (omega (arith, q, h)) }
 
 -- what the loop over the turns keeps
 pub record Turning (a : List ℕ) (n : ℕ) (down : Bool) (before : List ℕ) (i : ℕ) (after : List ℕ) : Type 0 where
-  pub long : length after ≡ 256
+  pub long : length after ≡ length before
   pub known : Known a after (beginOf i n down) (endOf i n down)
   pub acyclic : (j : ℕ) → j < i → ¬ OnCycle a (turnOf j n down)
   pub others : (x : ℕ) → n ≤ x → rowOf after x ≡ rowOf before x
 
-pub turning-none : (a : List ℕ) (n : ℕ) (down : Bool) (before : List ℕ) → length before ≡ 256 → Turning a n down before 0 before
-turning-none a n down before l = record { long = l; known = turns-none a before n down; acyclic = λ j h. absurd (omega (arith, h)); others = λ x h. refl }
+pub turning-none : (a : List ℕ) (n : ℕ) (down : Bool) (before : List ℕ) → Turning a n down before 0 before
+turning-none a n down before = record
+    { long = refl; known = turns-none a before n down; acyclic = λ j h. absurd (omega (arith, h)); others = λ x h. refl }
 
-module _ {a : List ℕ} {n : ℕ} {down : Bool} {before after : List ℕ} {i : ℕ} (T : Turning a n down before i after) (h : i < n) (small : n ≤ 128) (w : ℕ) (e : w ≡ turnOf i n down)
-    {r : Set} (C : Members (FromSet (Avoid w (Leads a)) (rowOf a w)) r) where
+module _ {a : List ℕ} {n : ℕ} {down : Bool} {before after : List ℕ} {i : ℕ} (T : Turning a n down before i after) (h : i < n)
+    (room : 2 * n ≤ length before) (w : ℕ) (e : w ≡ turnOf i n down)
+    {r : Set} (C : TurnReaches a w r) where
   low : w < n
   low = rw e (turn-low i n down h)
 
@@ -277,7 +370,7 @@ module _ {a : List ℕ} {n : ℕ} {down : Bool} {before after : List ℕ} {i : �
     first = record {
       from = omega arith;
       within = omega (arith, h);
-      holds = λ l. subst (OnCycle a) e (met-plus a w r (omega (arith, low, small)) C w g);
+      holds = λ l. subst (OnCycle a) e (C .cyclic g);
       before = λ k z l. T .acyclic k l;
     };
     known = λ f. absurd (omega (arith, f, h));
@@ -287,8 +380,10 @@ module _ {a : List ℕ} {n : ℕ} {down : Bool} {before after : List ℕ} {i : �
   pub turning-more : ¬ Has r w → Turning a n down before (i + 1) (putRow after w r)
   turning-more off = record {
     long = put-long after w r ∙ T .long;
-    known = known-more a w r (omega (arith, low, small)) C off after _ _ _ _ (T .long) (T .known) (turn-more i n w down h e);
-    acyclic = below-more (λ (j : ℕ). ¬ OnCycle a (turnOf j n down)) i (T .acyclic) (subst (λ (x : ℕ). ¬ OnCycle a x) e (λ p. off (plus-met a w r (omega (arith, low, small)) C off p)));
+    known = known-more a w r C off after _ _ _ _ (omega (arith, low, room, T .long)) (T .known)
+        (turn-more i n w down h e);
+    acyclic = below-more (λ (j : ℕ). ¬ OnCycle a (turnOf j n down)) i (T .acyclic)
+        (subst (λ (x : ℕ). ¬ OnCycle a x) e (λ p. off (C .exactly off w .1 p)));
     others = λ x l. put-other after w r x (λ f. omega (arith, f, l, low)) ∙ T .others x l;
   }
 
@@ -316,12 +411,26 @@ from-above S e = record { long = S .long; first = none-above S e; known = λ f. 
 pub from-below : {a before after : List ℕ} {n r : ℕ} → Searched a n false before r after → n ≤ r → Cycles a n before r after
 from-below S l = record { long = S .long; first = S .first; known = S .known; others = λ f. S .others; cleared = λ h. absurd (omega (arith, h, l)) }
 
-pub from-below-cleared : {a before after : List ℕ} {n r : ℕ} → Searched a n false before r after → r < n → Cycles a n before r (replicate 256 0)
-from-below-cleared S l = record { long = refl; first = S .first; known = λ e. absurd (omega (arith, e, l)); others = λ e. absurd (omega (arith, e, l)); cleared = λ h. refl }
+pub from-below-cleared : {a before between after : List ℕ} {n r : ℕ} → Searched a n false before r between → r < n
+    → after ≡ replicate (length between) 0 → Cycles a n before r after
+from-below-cleared {before = before} {between} S l e = record {
+  long = ap (λ (t : List ℕ). length t) e ∙ length-replicate {A = ℕ} (length between) 0 ∙ S .long;
+  first = S .first;
+  known = λ f. absurd (omega (arith, f, l));
+  others = λ f. absurd (omega (arith, f, l));
+  cleared = λ h. e ∙ ap (λ (m : ℕ). replicate {A = ℕ} m 0) (S .long);
+}
 
 -- where a turn from above has found a cycle, what it left in the table is cleared
 pub from-below-again : {a before between after : List ℕ} {n r t : ℕ} → Searched a n true before t between → t ≢ n → Cycles a n between r after → Cycles a n before r after
-from-below-again {a} {n = n} {r} {t} S m C = record { long = C .long; first = C .first; known = C .known; others = λ e. absurd (found e); cleared = C .cleared }
+from-below-again {a} {before} {between} {n = n} {r} {t} S m C = record {
+  long = C .long ∙ S .long;
+  first = C .first;
+  known = C .known;
+  others = λ e. absurd (found e);
+  cleared = λ h. rw (S .long) at
+      (C .cleared h);
+}
   where
     inside : t < n
     inside = omega (arith, S .first .within, m)
@@ -333,8 +442,15 @@ below-or : (v n : ℕ) → (v < n) ⊎ (n ≤ v)
 below-or v n = elim (decLt v n) [ yes h ↦ inl h | no h ↦ inr (omega (arith, h)) ]
 
 -- ONE ANSWER of `cycle`
-pub cycles-one : {a before : List ℕ} {n r t : ℕ} {x y : List ℕ} → n ≤ 128 → Words x → Words y → Cycles a n before r x → Cycles a n before t y → (r ≡ t) × (x ≡ y)
-cycles-one {a} {before} {n} {r} {t} {x} {y} small W Z C D = (same, elim (ℕ-discrete r n) [ yes e ↦ whole e | no e ↦ C .cleared (inside e) ∙ sym (D .cleared (omega (arith, inside e, same))) ])
+pub cycles-one : {a before : List ℕ} {n r t : ℕ} {x y : List ℕ} → n ≤ 128 → WholeSets before → Words x → Words y → Cycles a n before r x
+    → Cycles a n before t y
+    → (r ≡ t) × (x ≡ y)
+cycles-one {a} {before} {n} {r} {t} {x} {y} small
+    (m, even) W Z C D = (
+      same,
+      elim
+          (ℕ-discrete r n) [ yes e ↦ whole e | no e ↦ C .cleared (inside e) ∙ sym (D .cleared (omega (arith, inside e, same))) ],
+    )
   where
     same : r ≡ t
     same = first-one (C .first) (D .first)
@@ -343,16 +459,17 @@ cycles-one {a} {before} {n} {r} {t} {x} {y} small W Z C D = (same, elim (ℕ-dis
     inside e = omega (arith, C .first .within, e)
 
     whole : r ≡ n → x ≡ y
-    whole e = same-table x y 128 W Z (C .long) (D .long) each
+    whole e = same-table x y m W Z (C .long ∙ even) (D .long ∙ even) each
       where
         f : t ≡ n
         f = sym same ∙ e
 
-        each : (v : ℕ) → v < 128 → ((w : ℕ) → HasRow x v w ↔ HasRow y v w)
+        each : (v : ℕ) → v < m → ((w : ℕ) → HasRow x v w ↔ HasRow y v w)
         each v h w = elim (below-or v n) [ inl l ↦ known l | inr l ↦ other l ]
           where
             known : v < n → HasRow x v w ↔ HasRow y v w
-            known l = let p = C .known e .exactly v w (omega arith) l h in let q = D .known f .exactly v w (omega arith) l h in ((λ g. q .1 (p .0 g)), (λ g. p .1 (q .0 g)))
+            known l = let p = C .known e .exactly v w (omega arith) l (omega (arith, l, small)) in let q = D .known f .exactly v w
+                (omega arith) l (omega (arith, l, small)) in ((λ g. q .1 (p .0 g)), (λ g. p .1 (q .0 g)))
 
             other : n ≤ v → HasRow x v w ↔ HasRow y v w
             other l = let q : rowOf x v ≡ rowOf y v = C .others e v l ∙ sym (D .others f v l) in ((λ g. rw q at g), (λ g. rw q g))

@@ -60,6 +60,15 @@ pub record Visited (a : List ℕ) (stop w : ℕ) (s r : Search) : Type 0 where
 abbrev pub OnCycle : List ℕ → ℕ → Type 0
 OnCycle a x = Plus (Leads a) x x
 
+-- set x of after has what x reaches by one step or more, for each member x of the set
+pub record ReachedIn (a after : List ℕ) (s : Set) : Type 0 where
+  pub exactly : (x y : ℕ) → Has s x → HasRow after x y ↔ Plus (Leads a) x y
+
+-- if the set has w, w is on a cycle; if not, it has what w reaches by one step or more
+pub record TurnReaches (a : List ℕ) (w : ℕ) (r : Set) : Type 0 where
+  pub cyclic : Has r w → OnCycle a w
+  pub exactly : ¬ Has r w → (y : ℕ) → Has r y ↔ Plus (Leads a) w y
+
 -- the vertex of turn i, from above or from below
 abbrev pub turnOf : ℕ → ℕ → Bool → ℕ
 turnOf i n down = cond down (n - 1 - i) i
@@ -73,7 +82,7 @@ endOf i n down = cond down n i
 
 -- r is the first turn whose vertex is on a cycle, or n: then set x of after has what x reaches, for x below n
 pub record Searched (a : List ℕ) (n : ℕ) (down : Bool) (before : List ℕ) (r : ℕ) (after : List ℕ) : Type 0 where
-  pub long : length after ≡ 256
+  pub long : length after ≡ length before
   pub first : First (λ (j : ℕ). OnCycle a (turnOf j n down)) 0 n r
   pub known : r ≡ n → Known a after 0 n
   pub others : (x : ℕ) → n ≤ x → rowOf after x ≡ rowOf before x
@@ -81,8 +90,8 @@ pub record Searched (a : List ℕ) (n : ℕ) (down : Bool) (before : List ℕ) (
 -- r is the lowest of the first n vertices that is on a cycle, or n; what the lent table has then, and where there is
 -- a cycle
 pub record Cycles (a : List ℕ) (n : ℕ) (before : List ℕ) (r : ℕ) (after : List ℕ) : Type 0 where
-  pub long : length after ≡ 256
+  pub long : length after ≡ length before
   pub first : First (OnCycle a) 0 n r
   pub known : r ≡ n → Known a after 0 n
   pub others : r ≡ n → (x : ℕ) → n ≤ x → rowOf after x ≡ rowOf before x
-  pub cleared : r < n → after ≡ replicate 256 0
+  pub cleared : r < n → after ≡ replicate (length before) 0

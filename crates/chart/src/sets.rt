@@ -1,17 +1,21 @@
 // Reachability along a table of successors: a set for each vertex.
 use bits::Set;
+use bits::tables::clear;
 use bits::tables::in_row;
 use bits::tables::put_row;
 use bits::tables::row;
-use bits::tables::united;
+use bits::tables::row_or_empty;
+use bits::tables::united_from;
 ghost use mathlib.Core.Path.{_≡_};
 ghost use mathlib.Core.Bool.{true};
-ghost use Prim.Native.Nat.{_≤_, _<_};
+ghost use mathlib.Core.List.{List};
+ghost use Prim.Native.Nat.{ℕ, _+_, _*_, _≤_, _<_};
 ghost use lib.ListN.{length};
-ghost use Rattle.bits.specs.Sets.{Members};
+ghost use Rattle.bits.specs.Sets.{Has, Members};
+ghost use Rattle.bits.specs.Tables.{WholeSets};
 ghost use Rattle.theory.specs.Paths.{Avoid};
 ghost use Rattle.chart.specs.Sets.{Leads, LedTo, FromSet, ClosedBut, InOrFrom, Known, Jumps, Visited};
-ghost use Rattle.chart.specs.Sets.{turnOf, beginOf, endOf, Searched, Cycles};
+ghost use Rattle.chart.specs.Sets.{ReachedIn, TurnReaches, turnOf, beginOf, endOf, Searched, Cycles};
 
 // What is seen, and those of it whose successors are seen too.
 pub struct Search {
@@ -26,8 +30,8 @@ pub struct Span {
 }
 
 // Whether all that w reaches is known, and `stop` is neither w nor among it.
-fn jumps(after: &[u64; 256], from: usize, to: usize, stop: usize, w: usize) -> bool
-    requires { ⌜ (length (now after) ≡ 256) × (stop < 128) × (w < 128) ⌝ }
+fn jumps(after: &[u64], from: usize, to: usize, stop: usize, w: usize) -> bool
+    requires { ⌜ (2 * to ≤ length (now after)) × (stop < 128) × (w < 128) ⌝ }
     ensures { λ r. ⌜ (r ≡ true → Jumps (now (after .entry)) from to stop w) ⌝ }
 {
     if w < from {
@@ -45,16 +49,16 @@ fn jumps(after: &[u64; 256], from: usize, to: usize, stop: usize, w: usize) -> b
 // The turn of w, which is past: its successors are seen, unless it is `stop`. Where all that w reaches is known, that
 // is seen and past.
 fn visit(
-    next: &[u64; 256],
-    after: &[u64; 256],
+    next: &[u64],
+    after: &[u64],
     from: usize,
     to: usize,
     stop: usize,
     w: usize,
     s: Search,
 ) -> Search
-    requires { ⌜ (length (now next) ≡ 256)
-        × (length (now after) ≡ 256)
+    requires { ⌜ WholeSets (now next)
+        × (2 * to ≤ length (now after))
         × Known (now next) (now after) from to
         × (stop < 128)
         × (w < 128) ⌝ }
@@ -73,7 +77,7 @@ fn visit(
         return s;
     }
     Search {
-        seen: seen.union(row(next, w)),
+        seen: seen.union(row_or_empty(next, w)),
         past,
     }
 }
@@ -81,16 +85,16 @@ fn visit(
 // What the table `next` reaches from a set, never leaving `stop`, and what is in a set that is closed under it but for
 // the other one; the end, 0, stops nothing. Set x of `after` has, for each x from `from` up to `to`, what x reaches by one step or more.
 pub fn closure_from(
-    next: &[u64; 256],
-    after: &[u64; 256],
+    next: &[u64],
+    after: &[u64],
     from: usize,
     to: usize,
     stop: usize,
     closed: Set,
     set: Set,
 ) -> Set
-    requires { ⌜ (length (now next) ≡ 256)
-        × (length (now after) ≡ 256)
+    requires { ⌜ WholeSets (now next)
+        × (2 * to ≤ length (now after))
         × Known (now next) (now after) from to
         × (stop < 128)
         × ClosedBut (Avoid stop (Leads (now next))) closed set ⌝ }
@@ -113,15 +117,15 @@ pub fn closure_from(
 
 // The same from a set alone.
 pub fn closure_knowing(
-    next: &[u64; 256],
-    after: &[u64; 256],
+    next: &[u64],
+    after: &[u64],
     from: usize,
     to: usize,
     stop: usize,
     set: Set,
 ) -> Set
-    requires { ⌜ (length (now next) ≡ 256)
-        × (length (now after) ≡ 256)
+    requires { ⌜ WholeSets (now next)
+        × (2 * to ≤ length (now after))
         × Known (now next) (now after) from to
         × (stop < 128) ⌝ }
     ensures { λ r. ⌜ Members (FromSet (Avoid stop (Leads (now (next .entry)))) set) r ⌝ }
@@ -131,16 +135,16 @@ pub fn closure_knowing(
 
 // What the members of a set lead to by one step.
 fn led_to(next: &[u64], set: Set) -> Set
-    requires { ⌜ length (now next) ≡ 256 ⌝ }
+    requires { ⌜ WholeSets (now next) ⌝ }
     ensures { λ r. ⌜ Members (LedTo (now (next .entry)) set) r ⌝ }
 {
-    united(next, set.lo).union(united(&next[128..], set.hi))
+    united_from(next, 0, set.lo).union(united_from(next, 64, set.hi))
 }
 
 // What the table `next` reaches from a set, never leaving `stop`, where nothing is known: a round takes all that is new
 // at once.
-pub fn closure(next: &[u64; 256], stop: usize, set: Set) -> Set
-    requires { ⌜ (length (now next) ≡ 256) × (stop < 128) ⌝ }
+pub fn closure(next: &[u64], stop: usize, set: Set) -> Set
+    requires { ⌜ WholeSets (now next) × (stop < 128) ⌝ }
     ensures { λ r. ⌜ Members (FromSet (Avoid stop (Leads (now (next .entry)))) set) r ⌝ }
 {
     let mut seen = set;
@@ -177,21 +181,55 @@ fn turns(i: usize, n: usize, down: bool) -> Span
     Span { from: 0, to: i }
 }
 
+// A set, and what its members reach by the table: what the others reach that one of them reaches is there already.
+fn joined(after: &[u64], set: Set) -> Set
+    requires { ⌜ ((x : ℕ) → Has set x → 2 * x + 2 ≤ length (now after)) ⌝ }
+    ensures { λ r. ⌜ ((a : List ℕ) → ReachedIn a (now (after .entry)) set → Members (FromSet (Leads a) set) r) ⌝ }
+{
+    let mut all = set;
+    let mut left = set;
+    while !left.is_empty() {
+        let marked = Set::empty().with_highest(left);
+        let more = row(after, marked.at);
+        all = all.union(more);
+        left = left.difference(marked.set.union(more));
+    }
+    all
+}
+
+// What w reaches, at its turn: the vertices whose turn is past are known.
+fn turn_reaches(next: &[u64], after: &[u64], from: usize, to: usize, past: Set, w: usize) -> Set
+    requires { ⌜ WholeSets (now next)
+        × (2 * to ≤ length (now after))
+        × Known (now next) (now after) from to
+        × ((x : ℕ) → Has past x → (from ≤ x) × (x < to))
+        × (w < 128) ⌝ }
+    ensures { λ r. ⌜ TurnReaches (now (next .entry)) w r ⌝ }
+{
+    let set = row_or_empty(next, w);
+    if set.difference(past).is_empty() {
+        return joined(after, set);
+    }
+    closure_knowing(next, after, from, to, w, set)
+}
+
 // The first turn whose vertex reaches itself, or n: the first n vertices have a turn each. What each reaches is kept
 // for the next ones; where the answer is n, `after` has it of all of them.
-fn first_turn(next: &[u64; 256], n: usize, down: bool, after: &mut [u64; 256]) -> usize
-    requires { ⌜ (length (now next) ≡ 256) × (n ≤ 128) × (length (now after) ≡ 256) ⌝ }
+fn first_turn(next: &[u64], n: usize, down: bool, after: &mut [u64]) -> usize
+    requires { ⌜ WholeSets (now next) × (n ≤ 128) × (2 * n ≤ length (now after)) ⌝ }
     ensures { λ r. ⌜ Searched (now (next .entry)) n down (now (after .entry)) r (now (after .exit)) ⌝ }
 {
+    let mut past = Set::empty();
     let mut i: usize = 0;
     while i < n {
         let w = turn(i, n, down);
         let known = turns(i, n, down);
-        let set = closure_knowing(next, after, known.from, known.to, w, row(next, w));
+        let set = turn_reaches(next, after, known.from, known.to, past, w);
         if set.contains(w) {
             return i;
         }
         put_row(after, w, set);
+        past = past.with(w);
         i += 1;
     }
     i
@@ -199,13 +237,13 @@ fn first_turn(next: &[u64; 256], n: usize, down: bool, after: &mut [u64; 256]) -
 
 // The turns from below: the lowest of the first n vertices that reaches itself, or n. Where there is a cycle `after`
 // has nothing.
-fn cycle_from_below(next: &[u64; 256], n: usize, after: &mut [u64; 256]) -> usize
-    requires { ⌜ (length (now next) ≡ 256) × (n ≤ 128) × (length (now after) ≡ 256) ⌝ }
+fn cycle_from_below(next: &[u64], n: usize, after: &mut [u64]) -> usize
+    requires { ⌜ WholeSets (now next) × (n ≤ 128) × (2 * n ≤ length (now after)) ⌝ }
     ensures { λ r. ⌜ Cycles (now (next .entry)) n (now (after .entry)) r (now (after .exit)) ⌝ }
 {
     let r = first_turn(next, n, false, after);
     if r < n {
-        *after = [0u64; 256];
+        clear(after);
     }
     r
 }
@@ -213,13 +251,13 @@ fn cycle_from_below(next: &[u64; 256], n: usize, after: &mut [u64; 256]) -> usiz
 // The lowest of the first n vertices that reaches itself, or n: then `after` has what each of them reaches, and the
 // sets of the others stay. Where there is a cycle `after` has nothing. A cycle found from above need not be that of
 // the lowest vertex.
-pub fn cycle(next: &[u64; 256], n: usize, after: &mut [u64; 256]) -> usize
-    requires { ⌜ (length (now next) ≡ 256) × (n ≤ 128) × (length (now after) ≡ 256) ⌝ }
+pub fn cycle(next: &[u64], n: usize, after: &mut [u64]) -> usize
+    requires { ⌜ WholeSets (now next) × (n ≤ 128) × (2 * n ≤ length (now after)) ⌝ }
     ensures { λ r. ⌜ Cycles (now (next .entry)) n (now (after .entry)) r (now (after .exit)) ⌝ }
 {
     // where vertices lead up, as the one half way tells, more is known by turns from above
     let half = n / 2;
-    let w = row(next, half).lowest();
+    let w = row_or_empty(next, half).lowest();
     if (w < half) | (w == 128) {
         return cycle_from_below(next, n, after);
     }

@@ -1,13 +1,12 @@
 use borrow.Author.Needs.{needs}
-use Prim.Native.Nat.{_≤_}
+use Prim.Native.Nat.{ℕ, _≤_}
 use lib.ListN.{length}
-use native.Mathlib.Omega.{arith}
 use Rattle.bits.proofs.Gains.{Uniting, unite-none, unite-more, unite-all}
 use Rattle.bits.proofs.tables.united.Statement.{statement}
 use Rattle.bits.proofs.tables.united.Tie as tie
 
 abbrev Inv-loop : tie.InvT-loop
-Inv-loop table x all₀ left₀ all left = (128 ≤ length table) × Uniting table x left all
+Inv-loop table x all₀ left₀ all left = (128 ≤ length table) × Uniting table (λ (i : ℕ). i) x left all
 
 abbrev μ-loop : tie.MeasureT-loop
 μ-loop table x all₀ left₀ all left = left
@@ -16,7 +15,7 @@ empty-requires : tie.Need-empty-requires Inv-loop μ-loop
 empty-requires c κs = search needs
 
 loop-holds : tie.Need-loop-holds Inv-loop μ-loop
-loop-holds c = (c .before .before .pre, unite-none _ _ (c .empty .ensures))
+loop-holds c = (c .before .before .pre, unite-none _ _ _ (c .empty .ensures))
 
 lowest-bit-requires : tie.Need-lowest-bit-requires Inv-loop μ-loop
 lowest-bit-requires c κs = search needs

@@ -1,20 +1,19 @@
 use borrow.Author.Needs.{needs}
-use mathlib.Core.Path.{_≡_}
 use mathlib.Core.Logic.{inl}
 use Prim.Native.Nat.{_-_}
 use native.Mathlib.Omega.{arith}
-use lib.ListN.{length}
 use borrow.Author.Tests.{not-true, not-false}
 use Rattle.bits.specs.Sets.{Has, Difference, sizeOf}
 use Rattle.bits.proofs.Members.{size-few}
 use Rattle.theory.proofs.Tests.{not-so}
+use Rattle.bits.specs.Tables.{WholeSets}
 use Rattle.chart.proofs.Searches.{Searching, has-stop, round-none, round-more, round-less, searched}
 use Rattle.chart.proofs.sets.closure.Statement.{statement}
 use Rattle.chart.proofs.sets.closure.Tie as tie
 
 abbrev Inv-loop : tie.InvT-loop
 Inv-loop next stop seen₀ past₀ left₀ seen past left =
-    (length next ≡ 256) × Searching next stop seen₀ seen past × Has past stop × Difference seen past left
+    WholeSets next × Searching next stop seen₀ seen past × Has past stop × Difference seen past left
 
 abbrev μ-loop : tie.MeasureT-loop
 μ-loop next stop seen₀ past₀ left₀ seen past left = 128 - sizeOf past
@@ -31,7 +30,7 @@ difference-requires c κs = search needs
 loop-holds : tie.Need-loop-holds Inv-loop μ-loop
 loop-holds c =
     let w = c .before .with .ensures in
-    (c .before .before .before .pre .0, round-none (c .before .before .empty .ensures) w, has-stop w, c .difference .ensures)
+    (c .before .before .before .before .pre .0, round-none (c .before .before .empty .ensures) w, has-stop w, c .difference .ensures)
 
 is-empty-requires : tie.Need-is-empty-requires Inv-loop μ-loop
 is-empty-requires c κs = search needs
@@ -50,14 +49,14 @@ difference-requires-2 c κs = search needs
 
 loop-less : tie.Need-loop-less Inv-loop μ-loop
 loop-less c =
-    let k = c .before .before .before .before in
+    let k = c .before .before .before in
     let i = k .before .before .before .loop .inv in
     let some = not-so (k .before .before .is-empty .ensures) (not-true _ (k .before .if1 .taken)) in
     omega (arith, size-few (k .union .result), round-less (i .1) (i .2) (i .3) (k .union .ensures) some)
 
 loop-again : tie.Need-loop-again Inv-loop μ-loop
 loop-again c =
-    let k = c .before .before .before .before in
+    let k = c .before .before .before in
     let i = k .before .before .before .loop .inv in
     let U = k .union .ensures in
     let more = round-more (i .1) (i .2) (i .3) U (c .before .before .led-to .ensures) (c .before .union2 .ensures) in

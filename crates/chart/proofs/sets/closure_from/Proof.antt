@@ -1,20 +1,21 @@
 use borrow.Author.Needs.{needs}
-use mathlib.Core.Path.{_≡_, sym, _∙_}
+use mathlib.Core.Path.{sym, _∙_}
 use mathlib.Core.Bool.{true≢false}
-use Prim.Native.Nat.{_-_, _<_}
+use Prim.Native.Nat.{_-_, _*_, _≤_, _<_}
 use native.Mathlib.Omega.{arith}
 use lib.ListN.{length}
 use borrow.Author.Tests.{not-true, not-false}
 use Rattle.bits.specs.Sets.{Difference, sizeOf}
 use Rattle.bits.proofs.Members.{size-few}
 use Rattle.chart.specs.Sets.{Known}
+use Rattle.bits.specs.Tables.{WholeSets}
 use Rattle.chart.proofs.Searches.{Searching, searching, search-on, search-less, searched, from-closed}
 use Rattle.chart.proofs.sets.closure_from.Statement.{statement}
 use Rattle.chart.proofs.sets.closure_from.Tie as tie
 
 abbrev Inv-loop : tie.InvT-loop
 Inv-loop next after from to stop seen₀ past₀ left₀ seen past left =
-    (length next ≡ 256) × (length after ≡ 256) × Known next after from to × (stop < 128) × Searching next stop seen₀ seen past
+    WholeSets next × (2 * to ≤ length after) × Known next after from to × (stop < 128) × Searching next stop seen₀ seen past
     × Difference seen past left
 
 abbrev μ-loop : tie.MeasureT-loop
@@ -28,7 +29,7 @@ difference-requires c κs = search needs
 
 loop-holds : tie.Need-loop-holds Inv-loop μ-loop
 loop-holds c =
-    let p = c .before .before .pre in
+    let p = c .before .before .before .before .pre in
     (p .0, p .1, p .2, p .3, searching (p .4) (c .before .union .ensures), c .difference .ensures)
 
 is-empty-requires : tie.Need-is-empty-requires Inv-loop μ-loop
@@ -65,7 +66,7 @@ returns c =
     let i = c .before .before .loop .inv in
     let k = c .before .before .before .before in
     let end = searched (i .4) (i .5) (c .before .is-empty .ensures .0 (not-false _ (c .if1 .left))) in
-    from-closed (k .before .pre .4) (k .union .ensures) end
+    from-closed (k .before .before .before .pre .4) (k .union .ensures) end
 
 pub closure-from-spec : {M : Type 1} → statement M
 closure-from-spec =

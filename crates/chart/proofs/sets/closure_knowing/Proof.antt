@@ -7,7 +7,7 @@ empty-requires : tie.Need-empty-requires
 empty-requires c κs = search needs
 
 closure-from-requires : tie.Need-closure-from-requires
-closure-from-requires c κs = let p = c .before .pre in (p .0, p .1, p .2, p .3, none-closed _ (c .empty .ensures))
+closure-from-requires c κs = let p = c .before .before .before .pre in (p .0, p .1, p .2, p .3, none-closed _ (c .empty .ensures))
 
 returns : tie.Need-returns
 returns c = from-alone (c .before .empty .ensures) (c .closure-from .ensures)

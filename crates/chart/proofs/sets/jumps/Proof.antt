@@ -19,7 +19,14 @@ in-row-requires : tie.Need-in-row-requires
 in-row-requires c κs = search needs
 
 returns-4 : tie.Need-returns-4
-returns-4 c = λ h. record { above = omega arith; below = omega arith; apart = λ e. c .before .before .if3 .left (sym e); never = λ g. true≢false (sym (c .in-row .ensures .1 g) ∙ not-true _ h) }
+returns-4 c =
+    λ h. record {
+      above = omega arith;
+      below = omega arith;
+      apart = λ e. c .before .if3 .left (sym e);
+      never = λ g. true≢false
+          (sym (c .in-row .ensures .1 g) ∙ not-true _ h);
+    }
 
 pub jumps-spec : {M : Type 1} → statement M
 jumps-spec = tie.close (tie.spec returns returns-2 returns-3 in-row-requires returns-4)
