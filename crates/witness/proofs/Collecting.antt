@@ -2,15 +2,16 @@
 use mathlib.Core.Path.{_≡_, refl, sym, _∙_, subst}
 use mathlib.Core.Logic.{_≢_, _⊎_, inl, inr, ⊎-elim, by-cases, _↔_}
 use mathlib.Core.List.{List}
-use Prim.Native.Nat.{ℕ, _+_, _≤_, _<_}
+use Prim.Native.Nat.{ℕ, _+_, _*_, _≤_, _<_}
 use native.Mathlib.Decide.{ℕ-discrete}
 use native.Mathlib.Omega.{arith}
-use lib.ListN.{getD, replicate}
+use lib.ListN.{getD, length, replicate, length-replicate}
 use Rattle.bits.specs.declared.sets.Set.{Set}
+use Rattle.bits.specs.Bits.{Bytes, HighestByte}
 use Rattle.bits.specs.Sets.{emptySet, Members, Union}
-use Rattle.bits.specs.Tables.{HasRow, putRow, Table, Gains}
+use Rattle.bits.specs.Tables.{HasRow, putRow, TableOf, Gains}
 use Rattle.bits.proofs.Members.{⊎-map, none}
-use Rattle.bits.proofs.Gains.{put-long, put-here, put-other, gains-none, gains-as, gains-then, gained, table-as, table-gains}
+use Rattle.bits.proofs.Gains.{put-long, put-here, put-other, gains-as, gains-then, blank-table, table-of-as, table-of-gains}
 use Rattle.theory.specs.Charts.{Steps, Any, Branch}
 use Rattle.chart.specs.Bodies.{verticesOf, countOf, fromOf, toOf, WellFormed}
 use Rattle.chart.specs.Leaving.{Begins}
@@ -19,7 +20,7 @@ use Rattle.chart.proofs.Order.{begin-high}
 use Rattle.chart.proofs.Relations.{steps-formed}
 use Rattle.witness.specs.declared.tables.Taken.{Taken}
 use Rattle.witness.specs.declared.tables.Outgoing.{Outgoing}
-use Rattle.witness.specs.Given.{Entry, Enters, EntersFrom, NoSteps, FirstOf, OutgoingOf, Collected}
+use Rattle.witness.specs.Given.{Entry, Enters, EntersFrom, NoSteps, FirstOf, OutgoingOf, Collected, Room}
 use Rattle.witness.specs.Given.{IsBranch, IsEntry, RunLeads, Took, LevelsOf}
 use Rattle.witness.proofs.Seen.{Seen, seen-none, seen-first, seen-either, leaves-v, seen-step, step-seen}
 
@@ -162,19 +163,19 @@ outgoing-all R {u} low e O = record {
 collected-as : {S T : Steps} {next branches entries entered : List ℕ} → ((u l w : ℕ) → S u l w ↔ T u l w)
     → Collected S next branches entries entered → Collected T next branches entries entered
 collected-as f C = record {
-  of-next = table-as (λ x y h g. (λ (l, s). (l, f x l y .0 s), λ (l, s). (l, f x l y .1 s))) (C .of-next);
-  of-branches = table-as (λ x y h g. f x 0 y) (C .of-branches);
-  of-entries = table-as (λ x y h g. (λ (l, a, s). (l, a, f x l y .0 s), λ (l, a, s). (l, a, f x l y .1 s))) (C .of-entries);
-  of-entered = table-as (λ l x h g. (λ (a, w, s). (a, w, f x l w .0 s), λ (a, w, s). (a, w, f x l w .1 s))) (C .of-entered);
+  of-next = table-of-as (λ x y g. (λ (l, s). (l, f x l y .0 s), λ (l, s). (l, f x l y .1 s))) (C .of-next);
+  of-branches = table-of-as (λ x y g. f x 0 y) (C .of-branches);
+  of-entries = table-of-as (λ x y g. (λ (l, a, s). (l, a, f x l y .0 s), λ (l, a, s). (l, a, f x l y .1 s))) (C .of-entries);
+  of-entered = table-of-as (λ l x g. (λ (a, w, s). (a, w, f x l w .0 s), λ (a, w, s). (a, w, f x l w .1 s))) (C .of-entered);
 }
 
 -- tables with nothing in them
-pub collected-none : Collected NoSteps (replicate 256 0) (replicate 256 0) (replicate 256 0) (replicate 512 0)
-collected-none = record {
-  of-next = gained 128 256 refl (gains-none (λ x y (l, e). e));
-  of-branches = gained 128 256 refl (gains-none (λ x y e. e));
-  of-entries = gained 128 256 refl (gains-none (λ x y (l, a, e). e));
-  of-entered = gained 256 512 refl (gains-none (λ x y (a, w, e). e));
+collected-none : (n m : ℕ) → Collected NoSteps (replicate (2 * n) 0) (replicate (2 * n) 0) (replicate (2 * n) 0) (replicate (2 * m) 0)
+collected-none n m = record {
+  of-next = blank-table n (2 * n) refl (λ x y (l, e). e);
+  of-branches = blank-table n (2 * n) refl (λ x y e. e);
+  of-entries = blank-table n (2 * n) refl (λ x y (l, a, e). e);
+  of-entered = blank-table m (2 * m) refl (λ x y (a, w, e). e);
 }
 
 -- the end has no transitions
@@ -189,18 +190,21 @@ pub collected-all : {b labels next branches entries entered : List ℕ} → Well
 collected-all {b} {labels} W e = collected-as (λ u l w. (λ (h, s). s, λ s. (omega (arith, e, steps-formed b labels W .from-vertex u l w s .1), s)))
 
 -- a set of a table has come to be another
-put-table : {P Q : ℕ → ℕ → Type 0} {a r : List ℕ} {u : ℕ} {s : Set} → u < 128 → r ≡ putRow a u s → Members (Q u) s
-    → ((x y : ℕ) → x ≢ u → P x y ↔ Q x y) → Table 128 P a → Table 128 Q r
-put-table {P} {Q} {a} {r} {u} {s} h e M g T = subst (Table 128 Q) (sym e) (record {
-  long = put-long a u s ∙ T .long;
-  exactly = λ x y i l. by-cases (ℕ-discrete x u)
-      (λ z. subst (λ (v : ℕ). HasRow (putRow a u s) v y ↔ Q v y) (sym z) (rw (put-here a u s (omega (arith, h, T .long))) (M .exactly y l)))
-      (λ n. let o = put-other a u s x n in let t = T .exactly x y i l in
+put-table : {P Q : ℕ → ℕ → Type 0} {a r : List ℕ} {u : ℕ} {s : Set} → 2 * u + 2 ≤ length a → r ≡ putRow a u s → Members (Q u) s
+    → ((x y : ℕ) → x ≢ u → P x y ↔ Q x y) → TableOf P a → TableOf Q r
+put-table {P} {Q} {a} {r} {u} {s} h e M g T = subst (TableOf Q) (sym e) (record {
+  whole = (T .whole .0, put-long a u s ∙ T .whole .1);
+  exactly = λ x y l. by-cases (ℕ-discrete x u)
+      (λ z. subst (λ (v : ℕ). HasRow (putRow a u s) v y ↔ Q v y) (sym z) (rw (put-here a u s h) (M .exactly y l)))
+      (λ n. let o = put-other a u s x n in let t = T .exactly x y l in
       (λ k. g x y n .0 (t .0 (rw o at k)), λ q. rw o (t .1 (g x y n .1 q))));
 })
 
+pub put-as-long : (a : List ℕ) {r : List ℕ} (u : ℕ) (s : Set) → r ≡ putRow a u s → length r ≡ length a
+put-as-long a u s e = rw e (put-long a u s)
+
 -- the transitions of u come to the tables of the vertices before it
-module _ {S : Steps} {u : ℕ} (h : u < 128) {out : Outgoing} (R : OutgoingOf S u out) where
+module _ {S : Steps} {u : ℕ} {out : Outgoing} (R : OutgoingOf S u out) where
   other : {x l w : ℕ} → x ≢ u → FirstOf u S x l w ↔ FirstOf (u + 1) S x l w
   other n = (λ (g, s). (omega arith, s), λ (g, s). (omega arith, s))
 
@@ -230,22 +234,44 @@ module _ {S : Steps} {u : ℕ} (h : u < 128) {out : Outgoing} (R : OutgoingOf S 
         (λ k. let (m, a, s) = e .0 k in (m, a, here .0 s), λ (m, a, s). e .1 (m, a, here .1 s));
   }
 
-  entered-more : {a r : List ℕ} → Table 256 (Enters (FirstOf u S)) a → Gains (EntersFrom u S) a r → Table 256 (Enters (FirstOf (u + 1) S)) r
-  entered-more T G = table-as (λ l x i g. (
+  entered-more : {a r : List ℕ} → ((l x w : ℕ) → S x l w → 2 * l + 2 ≤ length a) → TableOf (Enters (FirstOf u S)) a → Gains
+      (EntersFrom u S) a r → TableOf (Enters (FirstOf (u + 1) S)) r
+  entered-more fit T G = table-of-as (λ l x g. (
     ⊎-elim (λ (a, w, (k, s)). (a, w, (omega arith, s))) (λ (e, (a, w, s)). (a, w, (omega arith, s))),
     λ (a, w, (k, s)). by-cases (ℕ-discrete x u) (λ e. inr (e, (a, w, s))) (λ e. inl (a, w, (omega arith, s))),
-  )) (table-gains T G)
+  )) (table-of-gains T G (λ l x h (e, (a, w, s)). omega (arith, h, fit l x w s)))
 
   pub collected-more : {next branches entries entered next₁ branches₁ entries₁ entered₁ : List ℕ} {both : Set}
-      → Collected (FirstOf u S) next branches entries entered → Gains (EntersFrom u S) entered entered₁
+      → 2 * u + 2 ≤ length next → 2 * u + 2 ≤ length branches → 2 * u + 2 ≤ length entries
+      → ((l x w : ℕ) → S x l w → 2 * l + 2 ≤ length entered) → Collected (FirstOf u S) next branches entries entered → Gains
+      (EntersFrom u S) entered entered₁
       → Union (out .branches) (out .entries) both → next₁ ≡ putRow next u both
       → branches₁ ≡ putRow branches u (out .branches) → entries₁ ≡ putRow entries u (out .entries)
       → Collected (FirstOf (u + 1) S) next₁ branches₁ entries₁ entered₁
-  collected-more C G U N B E = record {
+  collected-more h i j fit C G U N B E = record {
     of-next = put-table h N (all-members U) (λ x y n. (λ (l, s). (l, other n .0 s), λ (l, s). (l, other n .1 s))) (C .of-next);
-    of-branches = put-table h B branch-members (λ x y n. other n) (C .of-branches);
-    of-entries = put-table h E entry-members
+    of-branches = put-table i B branch-members (λ x y n. other n) (C .of-branches);
+    of-entries = put-table j E entry-members
         (λ x y n. (λ (m, a, s). (m, a, other n .0 s), λ (m, a, s). (m, a, other n .1 s)))
         (C .of-entries);
-    of-entered = entered-more (C .of-entered) G;
+    of-entered = entered-more fit (C .of-entered) G;
   }
+
+-- room for n vertices and the levels up to top, in tables of zeros
+pub room-by : (size levels : ℕ) {n top : ℕ} → n ≤ size → top < levels
+    → Room n top (replicate (2 * size) 0) (replicate (2 * size) 0) (replicate (2 * size) 0) (replicate (2 * levels) 0)
+room-by size levels {n} {top} i j = record {
+  nothing = collected-none size levels;
+  for-next = omega (arith, i, long);
+  for-branches = omega (arith, i, long);
+  for-entries = omega (arith, i, long);
+  for-levels = omega (arith, j, length-replicate {A = ℕ} (2 * levels) 0);
+}
+  where
+    long : length (replicate {A = ℕ} (2 * size) 0) ≡ 2 * size
+    long = length-replicate {A = ℕ} (2 * size) 0
+
+-- the highest of some bytes is one
+pub top-below : {bytes : List ℕ} {top : ℕ} → Bytes bytes → HighestByte bytes top → top < 256
+top-below {top = top} B H = by-cases (ℕ-discrete top 0) (λ e. omega (arith, e))
+    (λ n. let (i, h, e) = H .is-byte (omega (arith, n)) in omega (arith, B i, e))

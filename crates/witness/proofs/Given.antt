@@ -13,25 +13,28 @@ use Rattle.bits.specs.Sets.{Members}
 use Rattle.theory.specs.Charts.{Loop}
 use Rattle.chart.specs.Bodies.{WellFormed}
 use Rattle.chart.specs.Steps.{StepsOf}
-use Rattle.bits.specs.Tables.{rowOf, Table, Gains}
+use Rattle.bits.specs.Tables.{rowOf, Table, TableOf, Gains}
 use Rattle.witness.specs.Given.{Enters, EntersHigh, NoneAbove, InLater, IsLevel, EntryLevels, EntryTargets}
 use Rattle.witness.proofs.Labellings.{loop-below}
 use Rattle.witness.proofs.Firsts.{first-as}
-use Rattle.bits.proofs.Gains.{table-as, table-gains}
+use Rattle.bits.proofs.Gains.{row-beyond, table-of-as, table-of-gains}
+use Rattle.bits.proofs.Members.{none}
 
 -- with what the later levels have, a level has the vertices with an entry of it or of a higher one
-pub levels-of : {b labels entered high : List ℕ} → WellFormed b → Bytes labels → Table 256 (Enters (StepsOf b labels)) entered
-    → Gains (InLater entered) entered high → Table 256 (EntersHigh (StepsOf b labels)) high
-levels-of {b} {labels} {entered = entered} W B E I = table-as (λ l u h g. (to l u g, from l u g)) (table-gains E I)
+pub levels-of : {b labels entered high : List ℕ} → WellFormed b → Bytes labels → TableOf (Enters (StepsOf b labels)) entered
+    → Gains (InLater entered) entered high → TableOf (EntersHigh (StepsOf b labels)) high
+levels-of {b} {labels} {entered = entered} W B E I =
+    table-of-as (λ l u g. (to l u g, from l u g))
+    (table-of-gains E I (λ x y l (m, h, i, k). none y (rw (row-beyond entered m (omega arith)) at k)))
   where
     to : (l u : ℕ) → u < 128 → Enters (StepsOf b labels) l u ⊎ InLater entered l u → EntersHigh (StepsOf b labels) l u
     to l u g (inl o) = (l, o, le-refl l)
-    to l u g (inr (m, h, i, k)) = (m, E .exactly m u i g .0 k, omega arith)
+    to l u g (inr (m, h, i, k)) = (m, E .exactly m u g .0 k, omega arith)
 
     from : (l u : ℕ) → u < 128 → EntersHigh (StepsOf b labels) l u → Enters (StepsOf b labels) l u ⊎ InLater entered l u
     from l u g (m, o, h) =
         let i = loop-below b labels W B o .1 in
-        by-cases (ℕ-discrete m l) (λ e. inl (subst (Loop (StepsOf b labels) u) e o)) (λ e. inr (m, omega arith, i, E .exactly m u i g .1 o))
+        by-cases (ℕ-discrete m l) (λ e. inl (subst (Loop (StepsOf b labels) u) e o)) (λ e. inr (m, omega arith, i, E .exactly m u g .1 o))
 
 -- of the tables of a vertex: the next level is that of a loop, and its set is what the entries lead to
 module _ {b labels : List ℕ} {v : ℕ} where
@@ -46,6 +49,6 @@ module _ {b labels : List ℕ} {v : ℕ} where
   loop-targets T a h e = rw e (record { exactly = λ w l. (λ g. T .exactly _ w h l .0 g .1, λ s. T .exactly _ w h l .1 (a, s)) })
 
 -- no vertex has an entry of a level above the highest label
-pub none-higher : {b labels entered : List ℕ} {top : ℕ} → Table 256 (Enters (StepsOf b labels)) entered
+pub none-higher : {b labels entered : List ℕ} {top : ℕ} → TableOf (Enters (StepsOf b labels)) entered
     → HighestByte labels top → NoneAbove entered top
-none-higher T h x y a l g = let (p, w, s) = T .exactly x y l (g .below) .0 g in omega (arith, a, h .above (s .at), s .holds .is)
+none-higher T h x y a l g = let (p, w, s) = T .exactly x y (g .below) .0 g in omega (arith, a, h .above (s .at), s .holds .is)

@@ -2,7 +2,7 @@
 use mathlib.Core.Path.{_≡_, subst}
 use mathlib.Core.Logic.{_⊎_, inl, inr, ⊎-elim, by-cases, _↔_}
 use mathlib.Core.List.{List}
-use Prim.Native.Nat.{ℕ, _+_, _≤_, _<_}
+use Prim.Native.Nat.{ℕ, _+_, _*_, _≤_, _<_}
 use native.Mathlib.Decide.{ℕ-discrete}
 use native.Mathlib.Omega.{arith}
 use lib.ListN.{length}
@@ -17,7 +17,7 @@ Later a l x y = (l ≤ x) × InLater a x y
 pub later-none : {a : List ℕ} (top : ℕ) → NoneAbove a top → Gains (Later a top) a a
 later-none top n = gains-none (λ x y (h, (m, g, l, k)). n m y (omega arith) l k)
 
-pub later-more : {a t r : List ℕ} (l n : ℕ) → n ≡ l + 1 → n < 256 → length a ≡ 512 → Gains (Later a n) a t
+pub later-more : {a t r : List ℕ} (l n : ℕ) → n ≡ l + 1 → n < 256 → 2 * n + 2 ≤ length a → Gains (Later a n) a t
     → Gains (λ (x y : ℕ). (x ≡ l) × HasRow t n y) t r → Gains (Later a l) a r
 later-more {a} {t} l n e h i G H = gains-then G H (λ x y g. (to x y g, from x y g))
   where

@@ -12,6 +12,7 @@ pub mod Lows
 pub mod Sizes
 pub mod Reaching
 pub mod Nested
+pub mod Onward
 pub mod Loops
 pub mod Entries
 pub mod Answers

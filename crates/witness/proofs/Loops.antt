@@ -1,7 +1,7 @@
 -- The checks 33 to 35: of one loop, of the loops of a vertex, of all loops.
 use mathlib.Core.Path.{_≡_, refl, sym, subst}
-use mathlib.Core.Logic.{inl, inr, ⊎-elim, by-cases, _↔_}
-use mathlib.Core.Bool.{Bool, true, false}
+use mathlib.Core.Logic.{_≢_, inl, inr, ⊎-elim, by-cases, _↔_}
+use mathlib.Core.Bool.{Bool, true, false, false≢true}
 use mathlib.Core.List.{List}
 use Prim.Native.Nat.{ℕ, _+_, _≤_, _<_}
 use native.Mathlib.Decide.{ℕ-discrete, decLt}
@@ -22,7 +22,7 @@ use Rattle.bits.specs.Bits.{Bytes}
 use Rattle.bits.specs.First.{First}
 use Rattle.bits.specs.declared.sets.Set.{Set}
 use Rattle.bits.specs.Sets.{Has, emptySet, Empty, Members, Intersection, Difference}
-use Rattle.bits.specs.Tables.{rowOf, HasRow, Table}
+use Rattle.bits.specs.Tables.{rowOf, HasRow, TableOf}
 use Rattle.bits.proofs.Members.{none, has?}
 use Rattle.bits.proofs.Visits.{Visit}
 use Rattle.chart.specs.Bodies.{verticesOf, WellFormed}
@@ -30,13 +30,14 @@ use Rattle.chart.specs.Sets.{Leads, Closed, InOrFrom}
 use Rattle.chart.specs.Steps.{StepsOf}
 use Rattle.chart.proofs.Searches.{some-member, all-in}
 use Rattle.chart.proofs.Relations.{steps-formed}
-use Rattle.witness.specs.Given.{Tables}
+use Rattle.witness.specs.Given.{Entry, Tables}
 use Rattle.witness.specs.Loops.{LoopSaid, Back, Returning, InBoth, Barred, InLower, Tells, LoopGiven}
-use Rattle.witness.specs.Loops.{ReachesBelow, InOrAfter, Below, EntriesPass}
+use Rattle.witness.specs.Loops.{BelowLevel, ReachesBelow, InOrAfter, Below, EntriesPass, DeadEnd, LeadsOn}
 use Rattle.witness.specs.Answers.{FailsAt, VertexSaid, LoopsSaid}
 use Rattle.witness.proofs.Labellings.{loop-below}
 use Rattle.witness.proofs.Firsts.{first-as}
 use Rattle.witness.proofs.Reaching.{step-low, leads-branch, branch-leads}
+use Rattle.witness.proofs.Onward.{comes-to}
 
 -- the way to v, up to the first time that it is there
 to-first : {E : Edges} {u v : ℕ} → Star E u v → Star (Avoid v E) u v
@@ -74,7 +75,7 @@ module _ {b labels branches after entries low high : List ℕ} (W : WellFormed b
   comes-by p = let (w, s, q) = body-iff v .0 p in (w, s, back-iff w (target-low s) .1 (star-map (λ x y e. e .1) q))
 
   entry-target : {l w : ℕ} → 0 < l → StepsOf b labels v l w → HasRow entries v w
-  entry-target {l} {w} some s = T .of-entries .exactly v w at (step-low W s .1) .1 (l, some, s)
+  entry-target {l} {w} some s = T .of-entries .exactly v w (step-low W s .1) .1 (l, some, s)
 
   -- 34 AND 35: BY WHAT AN ENTRY'S TARGET REACHES
   body-low : {l w : ℕ} → InBody (StepsOf b labels) v l w → w < 128
@@ -90,7 +91,7 @@ module _ {b labels branches after entries low high : List ℕ} (W : WellFormed b
 
       no : ¬ Barred (StepsOf b labels) v l w
       no (inl z) = B .endless (subst (Has inside) z here-too)
-      no (inr (a, (y, o, g))) = B .lower w ((here-too, T .of-levels .exactly m w i j .1 (y, o, omega (arith, g, k))), a)
+      no (inr (a, (y, o, g))) = B .lower w ((here-too, T .of-levels .exactly m w j .1 (y, o, omega (arith, g, k))), a)
 
   -- x with all that it reaches is below the level
   free-below : {l w x : ℕ} → l < 256 → Below after high l x → StepsOf b labels v l x → Star (Branch (StepsOf b labels)) x w → w < 128
@@ -107,7 +108,7 @@ module _ {b labels branches after entries low high : List ℕ} (W : WellFormed b
 
       no : ¬ Barred (StepsOf b labels) v l w
       no (inl z) = B .endless (subst (InOrAfter after x) z there)
-      no (inr (a, e)) = B .lower w there (T .of-levels .exactly l w i j .1 e)
+      no (inr (a, e)) = B .lower w there (T .of-levels .exactly l w j .1 e)
 
   module _ {back : Set} (R : Members (Returning after v (rowOf entries v)) back) where
     returns-in : {l w : ℕ} → 0 < l → StepsOf b labels v l w → Back after v w → Has back w
@@ -141,7 +142,7 @@ module _ {b labels branches after entries low high : List ℕ} (W : WellFormed b
         where
           lowest : m ≤ l
           lowest = by-cases (decLt l m)
-              (λ h. absurd (T .of-low .each v at .before l (omega arith) (omega arith) (some, w, s)))
+              (λ h. absurd (T .of-low .each v l (some, w, s) .before l (omega arith) (omega arith) (some, w, s)))
               (λ h. omega arith)
 
           free : (u y : ℕ) → StepsOf b labels v l y → Star (Avoid v (Branch (StepsOf b labels))) y u → u < 128 → Dec (Has back y)
@@ -153,6 +154,46 @@ module _ {b labels branches after entries low high : List ℕ} (W : WellFormed b
               (λ z. free-inside lowest i (O z) (D y .1 (entry-target some q, n)) r j)
               (λ g. free-below (loop-below b labels W bytes (some, y, q) .1) g q (star-map (λ a c d. d .1) r) j))
               (E .each l y some q)
+
+  -- ALL ENTRIES RETURN where their targets lead on
+  module _ {ends : Set} (N : Members (DeadEnd branches (verticesOf b)) ends) {m : ℕ}
+      (L : LeadsOn branches high ends v m (rowOf entries v)) where
+    goes-on : (x : ℕ) → Has (L .all) x × (x < verticesOf b) → x ≢ v
+        → (y : ℕ) × Branch (StepsOf b labels) x y × (Has (L .all) y × (y < verticesOf b))
+    goes-on x (h, i) n =
+        let (y, g) = some-member (rowOf branches x) (λ e. n (L .onward x h (N .exactly x (h .below) .1 (i, e)))) in
+        let s : Leads branches x y = record { from = h .below; has = g } in
+        let t = leads-branch W (T .of-branches) x y s in
+        (y, t, (L .closed x y h (n, s), steps-formed b labels W .to-vertex _ _ _ t))
+
+    all-return : Members (Returning after v (rowOf entries v)) (rowOf entries v)
+    all-return = record { exactly = λ w h. (λ g. (g, comes-back w g), λ (g, k). g) }
+      where
+        comes-back : (w : ℕ) → HasRow entries v w → Back after v w
+        comes-back w g =
+            let (l, some, s) = T .of-entries .exactly v w (g .below) .0 g in
+            let low = target-low s in
+            back-iff w low .1 (comes-to (verticesOf b) (λ u x. steps-formed b labels W .to-vertex u 0 x) (T .acyclic) v goes-on w
+            (L .reached w (g .below) (w, g, here), low))
+
+    on-below : {l x : ℕ} → StepsOf b labels v l x → BelowLevel (L .all) high v m
+    on-below s = record {
+      endless = λ h.
+          let z = L .onward 0 h (N .exactly 0 (h .below) .1 (omega (arith, W .header .vertices-low), nothing-leaves)) in
+          omega (arith, z, steps-formed b labels W .from-vertex _ _ _ s .0);
+      lower = λ w ((h, g), n). n (L .lower w h g);
+    }
+      where
+        nothing-leaves : Empty (rowOf branches 0)
+        nothing-leaves y g =
+            let t = leads-branch W (T .of-branches) 0 y (record { from = omega arith; has = g }) in
+            omega (arith, steps-formed b labels W .from-vertex _ _ _ t .0)
+
+    pub lead-on-pass : m ≡ getD low v 0 → m < 256 → Bytes labels → VertexSaid (StepsOf b labels) v Passed
+    lead-on-pass e i bytes l o =
+        let D : Difference (rowOf entries v) (rowOf entries v) emptySet = λ w. (λ g. absurd (none w g), λ (g, n). absurd (n g)) in
+        let below : ReachesBelow branches high v m (rowOf entries v) = (L .all, L .reached, on-below (o .2)) in
+        vertex-passes all-return D e i bytes below (λ z. absurd (false≢true z)) (entries-return all-return D none) l o
 
 -- ONE LOOP
 module _ {b labels high : List ℕ} {v l : ℕ} {back seen : Set} (i : l < 256) (G : LoopGiven b labels high v l back seen) where
@@ -166,8 +207,8 @@ module _ {b labels high : List ℕ} {v l : ℕ} {back seen : Set} (i : l < 256) 
     module _ (no-end : ¬ Has seen 0) {r : ℕ} (F : First (InBoth seen high v l) 0 128 r) where
       found : First (NotLower (StepsOf b labels) v l) 0 128 r
       found = first-as (λ w h. (
-        λ ((c, d), a). let e = G .of-levels .exactly l w i h .0 d in (a, G .tells w h (inr (a, e)) .0 c, e),
-        λ (a, c, e). ((G .tells w h (inr (a, e)) .1 c, G .of-levels .exactly l w i h .1 e), a),
+        λ ((c, d), a). let e = G .of-levels .exactly l w h .0 d in (a, G .tells w h (inr (a, e)) .0 c, e),
+        λ (a, c, e). ((G .tells w h (inr (a, e)) .1 c, G .of-levels .exactly l w h .1 e), a),
       )) F
 
       endless : ¬ InBody (StepsOf b labels) v l 0
@@ -247,7 +288,7 @@ module _ {S : Steps} {v : ℕ} where
     vertex-stop e h f = rw e (level, T .is-loop h, T .passed, rw e at f)
 
 -- the search goes on: what it has seen is closed, and then it has the body of this level too
-module _ {b labels branches : List ℕ} (W : WellFormed b) (B : Table 128 (Branch (StepsOf b labels)) branches) {v level : ℕ} {seen : Set}
+module _ {b labels branches : List ℕ} (W : WellFormed b) (B : TableOf (Branch (StepsOf b labels)) branches) {v level : ℕ} {seen : Set}
     (T : VertexTo (StepsOf b labels) v level seen) where
   pub bodies-closed : Closed (Avoid v (Leads branches)) seen
   bodies-closed x y h (n, e) =
@@ -294,24 +335,33 @@ LoopsTo S v = (w m : ℕ) → w < v → Loop S w m → LoopPasses S w m
 abbrev pub LoopsPast : Steps → Set → Type 0
 LoopsPast S left = (w m : ℕ) → (¬ Has left w) → Loop S w m → LoopPasses S w m
 
+-- entries lead to vertices
+pub entries-low : {b labels entries : List ℕ} (v : ℕ) {w : ℕ} → WellFormed b → TableOf
+    (Entry (StepsOf b labels)) entries → HasRow entries v w
+    → w < verticesOf b
+entries-low {b} {labels} v W T h = let (l, a, s) = T .exactly _ _ (h .below) .0 h in steps-formed b labels W .to-vertex _ _ _ s
+
 -- at first all that have a loop are left
 module _ {b labels branches after entries low high : List ℕ} (W : WellFormed b) (B : Bytes labels)
     (T : Tables b labels branches after entries low high) where
   pub past-none : {s : Set} → s ≡ rowOf high 1 → LoopsPast (StepsOf b labels) s
   past-none e w m n o =
       absurd
-      (n (rw e (T .of-levels .exactly 1 w (omega arith) (omega (arith, loop-below b labels W B o .0, W .header .vertices-high)) .1 (m, o, omega (arith, o .0)))))
+      (n (rw e (T .of-levels .exactly 1 w (omega (arith, loop-below b labels W B o .0, W .header .vertices-high)) .1
+      (m, o, omega (arith, o .0)))))
 
   -- and each has a lowest level
   pub level-low : {s : Set} {v : ℕ} → s ≡ rowOf high 1 → Has s v → getD low v 0 < 256
   level-low {s} {v} e h =
-      let (m, o, g) = T .of-levels .exactly 1 v (omega arith) (h .below) .0 (rw e at h) in
+      let (m, o, g) = T .of-levels .exactly 1 v (h .below) .0 (rw e at h) in
       by-cases (decLt (getD low v 0) 256) (λ k. k)
-      (λ k. absurd (T .of-low .each v (h .below) .before m (omega arith) (omega (arith, loop-below b labels W B o .1)) o))
+      (λ k. absurd (T .of-low .each v m o .before m (omega arith) (omega (arith, loop-below b labels W B o .1)) o))
 
 module _ {S : Steps} {left : Set} {v : ℕ} (P : LoopsPast S left) where
-  pub past-more : {s fewer : Set} → Visit s left v fewer → VertexSaid S v Passed → LoopsPast S fewer
-  past-more T p w m n o = by-cases (ℕ-discrete w v)
+  pub past-more : {set fewer : Set} {s : Stage} → Visit set left v fewer → s ≡ Passed → VertexSaid S v s → LoopsPast S fewer
+  past-more T e f w m n o =
+      let p : VertexSaid S v Passed = rw e at f in
+      by-cases (ℕ-discrete w v)
       (λ q. subst (λ (x : ℕ). LoopPasses S x m) (sym q) (p m (subst (λ (x : ℕ). Loop S x m) q o)))
       (λ q. P w m (λ h. n (T .rest w .1 (h, q))) o)
 

@@ -5,16 +5,15 @@ use mathlib.Core.List.{List}
 use Prim.Native.Nat.{ℕ, _+_, _<_}
 use native.Mathlib.Decide.{ℕ-discrete, decLt}
 use native.Mathlib.Omega.{arith}
-use lib.ListN.{length, getD, set, length-set, replicate, length-replicate}
+use lib.ListN.{length, getD, set, length-set}
 use lib.Seq.{getD-set-same, getD-set-other}
 use Rattle.bits.specs.First.{First}
 use Rattle.bits.specs.declared.sets.Set.{Set}
 use Rattle.bits.specs.Sets.{Has, emptySet, Empty, Union, Difference}
-use Rattle.bits.specs.Tables.{rowOf, HasRow, Table}
+use Rattle.bits.specs.Tables.{rowOf, HasRow, TableOf}
 use Rattle.bits.proofs.Members.{none, has?}
-use Rattle.bits.proofs.Gains.{filled}
 use Rattle.bits.proofs.Visits.{Visit}
-use Rattle.theory.specs.Charts.{Steps}
+use Rattle.theory.specs.Charts.{Steps, Loop}
 use Rattle.witness.specs.Given.{Enters, LowestLevels, NoneAbove, PutFor}
 use Rattle.witness.proofs.Firsts.{first-as}
 
@@ -48,14 +47,12 @@ HasLevel entered v m = (0 < m) × HasRow entered m v
 pub record LowTo (entered : List ℕ) (l : ℕ) (seen : Set) (low : List ℕ) : Type 0 where
   pub long : length low ≡ 128
   pub found : (v : ℕ) → Has seen v → First (HasLevel entered v) 0 256 (getD low v 0)
-  pub others : (v : ℕ) → v < 128 → ¬ Has seen v → getD low v 0 ≡ 256
   pub none-yet : (v m : ℕ) → m < l → ¬ Has seen v → ¬ HasLevel entered v m
 
-pub low-none : {entered : List ℕ} {s : Set} → s ≡ emptySet → LowTo entered 1 s (replicate 128 256)
-low-none e = record {
-  long = length-replicate {A = ℕ} 128 256;
+pub low-none : {entered low : List ℕ} {s : Set} → length low ≡ 128 → s ≡ emptySet → LowTo entered 1 s low
+low-none long e = record {
+  long = long;
   found = λ v h. absurd (none v (rw e at h));
-  others = λ v h n. filled 128 256 v h;
   none-yet = λ v m h n (a, g). omega (arith, h, a);
 }
 
@@ -66,7 +63,6 @@ pub low-more : {entered : List ℕ} {l : ℕ} {seen new all : Set} {low r : List
 low-more {entered} {l} {seen} {new} {all} {low} {r} a h L D P U = record {
   long = P .long ∙ L .long;
   found = λ v g. by-cases (has? seen v) (old v) (λ n. ⊎-elim (λ k. absurd (n k)) (first v n) (U v .0 g));
-  others = λ v m n. P .others v (λ k. n (U v .1 (inr (D v .0 k .0)))) ∙ L .others v m (λ k. n (U v .1 (inl k)));
   none-yet = λ v m g n (b, k). by-cases (decLt m l)
       (λ i. L .none-yet v m i (λ z. n (U v .1 (inl z))) (b, k))
       (λ i. n (U v .1 (inr (subst (λ (x : ℕ). HasRow entered x v) (omega arith) k))));
@@ -85,18 +81,14 @@ low-more {entered} {l} {seen} {new} {all} {low} {r} a h L D P U = record {
 
 -- all of them
 pub low-all : {S : Steps} {entered : List ℕ} {l top : ℕ} {seen : Set} {low : List ℕ} → NoneAbove entered top → top < l
-    → LowTo entered l seen low → Table 256 (Enters S) entered → LowestLevels S low
-low-all {S} {entered} {l} {top} {seen} {low} N h L T = record {
+    → ((v m : ℕ) → Loop S v m → (v < 128) × (m < 256)) → LowTo entered l seen low → TableOf (Enters S) entered
+    → LowestLevels S low
+low-all {S} {entered} {l} {top} {seen} {low} N h few L T = record {
   long = L .long;
-  each = λ v g. first-as
-      (λ m i. let E = T .exactly m v i g in (λ (a, k). E .0 k, λ o. (o .0, E .1 o)))
-      (by-cases (has? seen v) (L .found v) (nothing v g));
+  each = λ v m o. let (g, i) = few v m o in first-as
+      (λ k j. let E = T .exactly k v g in (λ (a, z). E .0 z, λ q. (q .0, E .1 q)))
+      (L .found v (by-cases (has? seen v) (λ k. k) (λ n. absurd (missed v m (o .0, T .exactly m v g .1 o) i n))));
 }
   where
-    nothing : (v : ℕ) → v < 128 → ¬ Has seen v → First (HasLevel entered v) 0 256 (getD low v 0)
-    nothing v g n = rw (L .others v g n) (record {
-      from = omega arith;
-      within = omega arith;
-      holds = λ i. absurd (omega arith);
-      before = λ m i j (a, k). by-cases (decLt m l) (λ z. L .none-yet v m z n (a, k)) (λ z. N m v (omega arith) j k);
-    })
+    missed : (v m : ℕ) → HasLevel entered v m → m < 256 → ¬ ¬ Has seen v
+    missed v m (a, k) i n = by-cases (decLt m l) (λ z. L .none-yet v m z n (a, k)) (λ z. N m v (omega arith) i k)

@@ -2,18 +2,18 @@
 use mathlib.Core.Path.{_≡_, refl, subst}
 use mathlib.Core.Logic.{_≢_, _⊎_, inl, inr, ⊎-elim, _↔_, by-cases}
 use mathlib.Core.List.{List}
-use Prim.Native.Nat.{ℕ, _<_}
+use Prim.Native.Nat.{ℕ, _≤_, _<_}
 use native.Mathlib.Decide.{ℕ-discrete}
 use native.Mathlib.Omega.{arith}
 use Rattle.bits.specs.First.{First}
 use Rattle.bits.specs.declared.sets.Set.{Set}
 use Rattle.bits.specs.Sets.{Has, emptySet, Members, Difference}
-use Rattle.bits.specs.Tables.{Table}
+use Rattle.bits.specs.Tables.{TableOf}
 use Rattle.bits.proofs.Members.{none, has?}
 use Rattle.theory.specs.Paths.{Edges, Star, Avoid}
 use Rattle.theory.specs.Charts.{Any, Branch}
-use Rattle.theory.specs.Checks.{Unreached, OnBranchCycle}
-use Rattle.theory.proofs.Paths.{star-map, plus-map}
+use Rattle.theory.specs.Checks.{Unreached, OnBranchCycle, NoBranchCycle}
+use Rattle.theory.proofs.Paths.{star-map, plus-map, plus-below}
 use Rattle.chart.specs.Bodies.{verticesOf, startOf, WellFormed}
 use Rattle.chart.specs.Sets.{Leads, FromSet, OnCycle}
 use Rattle.chart.specs.Steps.{StepsOf}
@@ -26,7 +26,7 @@ pub only-member : {none-yet r : Set} {w : ℕ} → none-yet ≡ emptySet → ((y
 only-member e f = record { exactly = λ y l. (λ h. ⊎-elim (λ g. absurd (none y (rw e at g))) (λ z. z) (f y .0 h), λ z. f y .1 (inr z)) }
 
 -- from the vertices of B, along what the table has, which is E but for the transitions that leave stop
-closed-from : {a : List ℕ} {set r : Set} {stop : ℕ} {D E : Edges} {B P : ℕ → Type 0} → Table 128 D a
+closed-from : {a : List ℕ} {set r : Set} {stop : ℕ} {D E : Edges} {B P : ℕ → Type 0} → TableOf D a
     → ((u w : ℕ) → D u w → (u < 128) × (w < 128)) → ((u w : ℕ) → Avoid stop D u w ↔ E u w)
     → Members B set → ((w : ℕ) → B w → w < 128) → Members (FromSet (Avoid stop (Leads a)) set) r
     → ((w : ℕ) → ((x : ℕ) × B x × Star E x w) ↔ P w) → Members P r
@@ -38,10 +38,10 @@ closed-from {a} {stop = stop} {E = E} T low h M small R f = record {
 }
   where
     there : (u w : ℕ) → Avoid stop (Leads a) u w → E u w
-    there u w (n, s) = h u w .0 (n, T .exactly u w (s .from) (s .has .below) .0 (s .has))
+    there u w (n, s) = h u w .0 (n, T .exactly u w (s .has .below) .0 (s .has))
 
     back : (u w : ℕ) → E u w → Avoid stop (Leads a) u w
-    back u w e = let (n, d) = h u w .1 e in let (i, j) = low u w d in (n, record { from = i; has = T .exactly u w i j .1 d })
+    back u w e = let (n, d) = h u w .1 e in let (i, j) = low u w d in (n, record { from = i; has = T .exactly u w j .1 d })
 
 module _ {b labels : List ℕ} (W : WellFormed b) where
   -- vertices are below 128, and the end has no transitions
@@ -55,7 +55,7 @@ module _ {b labels : List ℕ} (W : WellFormed b) where
   not-end s e = omega (arith, steps-formed b labels W .from-vertex _ _ _ s .0)
 
   -- 31: what the start reaches, by all transitions
-  pub members-reached : {next : List ℕ} {set r : Set} {start : ℕ} → Table 128 (Any (StepsOf b labels)) next → start < 128
+  pub members-reached : {next : List ℕ} {set r : Set} {start : ℕ} → TableOf (Any (StepsOf b labels)) next → start < 128
       → Members (λ (w : ℕ). w ≡ start) set → Members (FromSet (Avoid 0 (Leads next)) set) r
       → Members (Star (Any (StepsOf b labels)) start) r
   members-reached {start = start} T h M R =
@@ -68,12 +68,18 @@ module _ {b labels : List ℕ} (W : WellFormed b) where
       R
       (λ w. (λ (x, e, p). subst (λ (u : ℕ). Star (Any (StepsOf b labels)) u w) e p, λ p. (start, refl, p)))
 
-  module _ {branches : List ℕ} (T : Table 128 (Branch (StepsOf b labels)) branches) where
+  -- 32 has passed: no vertex is on a branch cycle
+  pub acyclic : {r : ℕ} → First (OnBranchCycle (StepsOf b labels)) 0 (verticesOf b) r → verticesOf b ≤ r
+      → NoBranchCycle (StepsOf b labels)
+  acyclic F h w c =
+      let l : w < verticesOf b = plus-below (λ u x. steps-formed b labels W .to-vertex u 0 x) c in F .before w (omega arith) (omega arith) c
+
+  module _ {branches : List ℕ} (T : TableOf (Branch (StepsOf b labels)) branches) where
     pub leads-branch : (u w : ℕ) → Leads branches u w → Branch (StepsOf b labels) u w
-    leads-branch u w s = T .exactly u w (s .from) (s .has .below) .0 (s .has)
+    leads-branch u w s = T .exactly u w (s .has .below) .0 (s .has)
 
     pub branch-leads : (u w : ℕ) → Branch (StepsOf b labels) u w → Leads branches u w
-    branch-leads u w s = let (i, j) = step-low s in record { from = i; has = T .exactly u w i j .1 s }
+    branch-leads u w s = let (i, j) = step-low s in record { from = i; has = T .exactly u w j .1 s }
 
     -- 32: a cycle of the table is one of branches
     pub cycle-first : {n r : ℕ} → First (OnCycle branches) 0 n r → First (OnBranchCycle (StepsOf b labels)) 0 n r

@@ -13,7 +13,7 @@ use Rattle.bits.specs.Counts.{bitsBelow}
 use Rattle.bits.specs.declared.sets.Set.{Set}
 use Rattle.bits.specs.Words.{On}
 use Rattle.bits.specs.Sets.{halfOf, Empty, sizeOf}
-use Rattle.bits.specs.Tables.{rowOf, HasRow, Table}
+use Rattle.bits.specs.Tables.{rowOf, HasRow, TableOf}
 use Rattle.bits.proofs.Counts.{bit-uncounted}
 use Rattle.bits.proofs.Members.{low-has, high-has}
 use Rattle.theory.specs.Orders.{Pair, AllLoops}
@@ -80,7 +80,7 @@ counted-two {a} {k} {n} {m} h e c =
     subst (λ (l : ℕ). CountedTo a l (n + m)) i (subst (CountedTo a (2 * k + 1 + 1)) j (counted-more (omega arith) (counted-more (omega arith) c)))
 
 -- the sets have a member for each loop
-module _ {b labels a : List ℕ} (passed : checkOf b ≡ stage.Passed) (B : Bytes labels) (T : Table 256 (Enters (StepsOf b labels)) a) where
+module _ {b labels a : List ℕ} (passed : checkOf b ≡ stage.Passed) (B : Bytes labels) (T : TableOf (Enters (StepsOf b labels)) a) where
   abbrev swap : Pair → Pair
   swap x = (x .1, x .0)
 
@@ -89,11 +89,11 @@ module _ {b labels a : List ℕ} (passed : checkOf b ≡ stage.Passed) (B : Byte
     every = λ v l o.
         let (h, g) = loop-below b labels (well-formed b passed) B o in
         let i : v < 128 = omega (arith, h, well-formed b passed .header .vertices-high) in
-        Memᴰ·map swap (pairs← (inSet a) 256 128 l v (g, i) (in-set a l v i .1 (T .exactly l v g i .1 o)));
+        Memᴰ·map swap (pairs← (inSet a) 256 128 l v (g, i) (in-set a l v i .1 (T .exactly l v i .1 o)));
     only = λ v l m.
         let (x, n, e) = Memᴰ·of-map swap (pairs (inSet a) 256 128) m in
         let (g, i, t) = pairs→ (inSet a) 256 128 l v (subst (λ (y : Pair). List·Memᴰ y (pairs (inSet a) 256 128)) (ap swap e) n) in
-        T .exactly l v g i .0 (in-set a l v i .0 t);
+        T .exactly l v i .0 (in-set a l v i .0 t);
     once = distinct-map swap (λ x y e. ap swap e) (pairs-distinct (inSet a) 256 128);
   }
 

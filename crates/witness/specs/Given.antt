@@ -7,10 +7,10 @@ use lib.ListN.{length, getD}
 use Rattle.bits.specs.First.{First}
 use Rattle.bits.specs.declared.sets.Set.{Set}
 use Rattle.bits.specs.Sets.{Has, Members, sizeOf, Ones}
-use Rattle.bits.specs.Tables.{rowOf, HasRow, Table}
+use Rattle.bits.specs.Tables.{rowOf, HasRow, TableOf}
 use Rattle.theory.specs.Paths.{Edges}
 use Rattle.theory.specs.Charts.{Steps, Any, Branch, Loop}
-use Rattle.theory.specs.Checks.{Unreached}
+use Rattle.theory.specs.Checks.{Unreached, NoBranchCycle}
 use Rattle.report.specs.declared.Stage.the-variants.{Passed}
 use Rattle.chart.specs.Bodies.{verticesOf, startOf, countOf, toOf, WellFormed}
 use Rattle.chart.specs.Checks.{checkOf}
@@ -38,20 +38,27 @@ Enters S l u = Loop S u l
 abbrev pub EntersHigh : Steps → ℕ → ℕ → Type 0
 EntersHigh S l u = (m : ℕ) × Loop S u m × (l ≤ m)
 
--- for each vertex the lowest level of its entries, or 256 where it has none
+-- for each vertex that has entries their lowest level
 pub record LowestLevels (S : Steps) (low : List ℕ) : Type 0 where
   pub long : length low ≡ 128
-  pub each : (v : ℕ) → v < 128 → First (Loop S v) 0 256 (getD low v 0)
+  pub each : (v l : ℕ) → Loop S v l → First (Loop S v) 0 256 (getD low v 0)
 
--- what the loops are checked by: where the branches of each vertex lead to, by one step and by more, where its
--- entries lead to and their lowest level, and which vertices have an entry of each level or a higher one
+-- a table has a set for each label
+abbrev pub LevelsFit : List ℕ → List ℕ → Type 0
+LevelsFit labels entered = (i : ℕ) → i < length labels → 2 * getD labels i 0 + 2 ≤ length entered
+
+-- what the loops are checked by: where the branches of each vertex lead to, by one step and by more, and never back;
+-- where its entries lead to and their lowest level, and which vertices have an entry of each level or a higher one
 pub record Tables (b labels branches after entries low high : List ℕ) : Type 0 where
-  pub of-branches : Table 128 (Branch (StepsOf b labels)) branches
-  pub after-long : length after ≡ 256
+  pub of-branches : TableOf (Branch (StepsOf b labels)) branches
+  pub branches-room : 2 * verticesOf b ≤ length branches
+  pub after-room : 2 * verticesOf b ≤ length after
   pub of-after : Known branches after 0 (verticesOf b)
-  pub of-entries : Table 128 (Entry (StepsOf b labels)) entries
+  pub acyclic : NoBranchCycle (StepsOf b labels)
+  pub of-entries : TableOf (Entry (StepsOf b labels)) entries
   pub of-low : LowestLevels (StepsOf b labels) low
-  pub of-levels : Table 256 (EntersHigh (StepsOf b labels)) high
+  pub of-levels : TableOf (EntersHigh (StepsOf b labels)) high
+  pub levels-fit : LevelsFit labels high
 
 -- r is the lowest vertex that the start does not reach, or V
 abbrev pub FirstUnreached : List ℕ → List ℕ → ℕ → Type 0
@@ -77,10 +84,18 @@ EntersFrom u S l x = (x ≡ u) × Enters S l x
 -- for each vertex where its transitions, its branches and its entries lead to; for each level the vertices with an
 -- entry of it
 pub record Collected (S : Steps) (next branches entries entered : List ℕ) : Type 0 where
-  pub of-next : Table 128 (Any S) next
-  pub of-branches : Table 128 (Branch S) branches
-  pub of-entries : Table 128 (Entry S) entries
-  pub of-entered : Table 256 (Enters S) entered
+  pub of-next : TableOf (Any S) next
+  pub of-branches : TableOf (Branch S) branches
+  pub of-entries : TableOf (Entry S) entries
+  pub of-entered : TableOf (Enters S) entered
+
+-- what is collected has room: tables with nothing in them, with a set for each vertex and for each level up to top
+pub record Room (n top : ℕ) (next branches entries entered : List ℕ) : Type 0 where
+  pub nothing : Collected NoSteps next branches entries entered
+  pub for-next : 2 * n ≤ length next
+  pub for-branches : 2 * n ≤ length branches
+  pub for-entries : 2 * n ≤ length entries
+  pub for-levels : 2 * top + 2 ≤ length entered
 
 -- A RUN OF TRANSITIONS, from a up to e, and a table by which what they lead to comes into a set
 pub record Run (b ones : List ℕ) (a e : ℕ) : Type 0 where

@@ -17,9 +17,95 @@ use tables::count_loops;
 use tables::join_later;
 use tables::lowest_levels;
 ghost use mathlib.Core.Path.{_≡_};
+ghost use Prim.Native.Nat.{_≤_, _<_};
+ghost use Rattle.bits.specs.Bits.{HighestByte};
+ghost use Rattle.chart.specs.Bodies.{verticesOf};
 ghost use Rattle.chart.specs.Checks.{checkOf};
 ghost use Rattle.chart.specs.Leaving.{Begins};
+ghost use Rattle.witness.specs.Given.{Given, Room};
 ghost use Rattle.witness.specs.Labellings.{labelledOf};
+
+// 31 to 35, and the number of loops, where 30 passes. The tables have nothing yet, but room for each vertex and level.
+fn check_by(
+    body: &[u8],
+    labels: &[u8],
+    begins: &[usize; 129],
+    top: usize,
+    next: &mut [u64],
+    branches: &mut [u64],
+    entries: &mut [u64],
+    high: &mut [u64],
+) -> Labelled
+    requires { ⌜ Given (now body) (now labels) (now begins)
+        × HighestByte (now labels) top
+        × Room (verticesOf (now body)) top (now next) (now branches) (now entries) (now high) ⌝ }
+    ensures { λ r. ⌜ r ≡ labelledOf (now (body .entry)) (now (labels .entry)) ⌝ }
+{
+    let n = byte(body, 0);
+    collect(body, labels, begins, n, next, branches, entries, high);
+    let p = unreached(body, next);
+    if p < n {
+        return Labelled::Refused(Place::Unreached(p));
+    }
+    // where there is no cycle, `next` has from here on what each vertex reaches by branches
+    let c = cycle(branches, n, next);
+    if c < n {
+        return Labelled::Refused(Place::BranchCycle(c));
+    }
+    let loops = count_loops(high, top);
+    let mut low = [0u8; 128];
+    lowest_levels(high, top, &mut low);
+    join_later(high, top);
+    match loops_check(body, labels, begins, branches, next, entries, &low, high) {
+        Stage::Refused(place) => Labelled::Refused(place),
+        Stage::Passed => Labelled::Passed(loops),
+    }
+}
+
+// The same with tables for 32 vertices and the levels below 32: what is cleared is most of the work on a small file.
+fn check_small(body: &[u8], labels: &[u8], begins: &[usize; 129], top: usize) -> Labelled
+    requires { ⌜ Given (now body) (now labels) (now begins)
+        × HighestByte (now labels) top
+        × (verticesOf (now body) ≤ 32)
+        × (top < 32) ⌝ }
+    ensures { λ r. ⌜ r ≡ labelledOf (now (body .entry)) (now (labels .entry)) ⌝ }
+{
+    let mut next = [0u64; 64];
+    let mut branches = [0u64; 64];
+    let mut entries = [0u64; 64];
+    let mut high = [0u64; 64];
+    check_by(
+        body,
+        labels,
+        begins,
+        top,
+        &mut next,
+        &mut branches,
+        &mut entries,
+        &mut high,
+    )
+}
+
+// The same with tables for all vertices and levels.
+fn check_large(body: &[u8], labels: &[u8], begins: &[usize; 129], top: usize) -> Labelled
+    requires { ⌜ Given (now body) (now labels) (now begins) × HighestByte (now labels) top ⌝ }
+    ensures { λ r. ⌜ r ≡ labelledOf (now (body .entry)) (now (labels .entry)) ⌝ }
+{
+    let mut next = [0u64; 256];
+    let mut branches = [0u64; 256];
+    let mut entries = [0u64; 256];
+    let mut high = [0u64; 512];
+    check_by(
+        body,
+        labels,
+        begins,
+        top,
+        &mut next,
+        &mut branches,
+        &mut entries,
+        &mut high,
+    )
+}
 
 // What 30 to 35 say of a labelling beside a chart body that 20 and 21 let pass, by where its transitions begin.
 pub fn check(body: &[u8], labels: &[u8], begins: &[usize; 129]) -> Labelled
@@ -29,46 +115,9 @@ pub fn check(body: &[u8], labels: &[u8], begins: &[usize; 129]) -> Labelled
     if labels.len() != chart::count(body) {
         return Labelled::Refused(Place::LabelsLength(labels.len()));
     }
-    let n = byte(body, 0);
-    let mut next = [0u64; 256];
-    let mut branches = [0u64; 256];
-    let mut entries = [0u64; 256];
-    let mut high = [0u64; 512];
-    collect(
-        body,
-        labels,
-        begins,
-        n,
-        &mut next,
-        &mut branches,
-        &mut entries,
-        &mut high,
-    );
-    let p = unreached(body, &next);
-    if p < n {
-        return Labelled::Refused(Place::Unreached(p));
-    }
-    // where there is no cycle, `next` has from here on what each vertex reaches by branches
-    let c = cycle(&branches, n, &mut next);
-    if c < n {
-        return Labelled::Refused(Place::BranchCycle(c));
-    }
     let top = highest_byte(labels);
-    let loops = count_loops(&high, top);
-    let mut low = [256usize; 128];
-    lowest_levels(&high, top, &mut low);
-    join_later(&mut high, top);
-    match loops_check(
-        body,
-        labels,
-        begins,
-        &branches,
-        &next,
-        &entries,
-        &low,
-        &high,
-    ) {
-        Stage::Refused(place) => Labelled::Refused(place),
-        Stage::Passed => Labelled::Passed(loops),
+    if (byte(body, 0) <= 32) & (top < 32) {
+        return check_small(body, labels, begins, top);
     }
+    check_large(body, labels, begins, top)
 }

@@ -5,8 +5,7 @@ use chart::sets::closure;
 ghost use mathlib.Core.Path.{_≡_};
 ghost use mathlib.Core.List.{List};
 ghost use Prim.Native.Nat.{ℕ};
-ghost use lib.ListN.{length};
-ghost use Rattle.bits.specs.Tables.{Table};
+ghost use Rattle.bits.specs.Tables.{WholeSets, TableOf};
 ghost use Rattle.theory.specs.Charts.{Any};
 ghost use Rattle.chart.specs.Checks.{checkOf};
 ghost use Rattle.chart.specs.Steps.{StepsOf};
@@ -14,10 +13,10 @@ ghost use Rattle.witness.specs.Given.{FirstUnreached};
 use report::Stage;
 
 // 31: the lowest vertex that the start does not reach, or V. The end need not be reached.
-pub(crate) fn unreached(body: &[u8], next: &[u64; 256]) -> usize
-    requires { ⌜ (checkOf (now body) ≡ Stage.Passed) × (length (now next) ≡ 256) ⌝ }
+pub(crate) fn unreached(body: &[u8], next: &[u64]) -> usize
+    requires { ⌜ (checkOf (now body) ≡ Stage.Passed) × WholeSets (now next) ⌝ }
     ensures { λ r. ⌜ ((labels : List ℕ)
-        → Table 128 (Any (StepsOf (now (body .entry)) labels)) (now (next .entry))
+        → TableOf (Any (StepsOf (now (body .entry)) labels)) (now (next .entry))
         → FirstUnreached (now (body .entry)) labels r) ⌝ }
 {
     let n = byte(body, 0);

@@ -7,19 +7,20 @@ use bits::tables::insert;
 use bits::tables::join;
 use bits::tables::put_row;
 use bits::tables::row;
+use bits::tables::row_or_empty;
 ghost use mathlib.Core.Path.{_≡_};
 ghost use mathlib.Core.List.{List};
-ghost use Prim.Native.Nat.{ℕ, _+_, _≤_, _<_};
-ghost use lib.ListN.{length, replicate};
+ghost use Prim.Native.Nat.{ℕ, _+_, _*_, _≤_, _<_};
+ghost use lib.ListN.{length};
 ghost use Rattle.bits.specs.Bits.{Bytes};
 ghost use Rattle.bits.specs.Sets.{Ones};
-ghost use Rattle.bits.specs.Tables.{Table, Gains};
+ghost use Rattle.bits.specs.Tables.{WholeSets, TableOf, Gains};
 ghost use Rattle.chart.specs.Bodies.{verticesOf, countOf};
 ghost use Rattle.chart.specs.Checks.{checkOf};
 ghost use Rattle.chart.specs.Steps.{StepsOf};
 ghost use Rattle.witness.specs.Given.{Given, Enters, EntersFrom, LowestLevels, NoSteps};
 ghost use Rattle.witness.specs.Given.{Run, IsBranch, IsEntry, WithTargets, Took, LevelsOf, OutgoingOf};
-ghost use Rattle.witness.specs.Given.{Collected, NoneAbove, InLater, sizesOf, PutFor};
+ghost use Rattle.witness.specs.Given.{Collected, LevelsFit, NoneAbove, InLater, sizesOf, PutFor};
 ghost use Rattle.witness.specs.Labellings.{loopsOf};
 use report::Stage;
 
@@ -114,7 +115,7 @@ fn take_entries(
     requires { ⌜ Run (now body) (now ones) at end
         × (length (now labels) ≡ countOf (now body))
         × (u < 128)
-        × (length (now entered) ≡ 512) ⌝ }
+        × LevelsFit (now labels) (now entered) ⌝ }
     ensures { λ r. ⌜ Took (now (body .entry)) (IsEntry (now (labels .entry))) at end set r
         × (r .at < end → IsBranch (now (labels .entry)) (r .at))
         × Gains (LevelsOf (now (labels .entry)) at (r .at) u) (now (entered .entry)) (now (entered .exit)) ⌝ }
@@ -145,7 +146,7 @@ fn outgoing_of(
     requires { ⌜ Given (now body) (now labels) (now begins)
         × Ones (verticesOf (now body)) (now ones)
         × (u < 128)
-        × (length (now entered) ≡ 512) ⌝ }
+        × LevelsFit (now labels) (now entered) ⌝ }
     ensures { λ r. ⌜ OutgoingOf (StepsOf (now (body .entry)) (now (labels .entry))) u r
         × Gains (EntersFrom u (StepsOf (now (body .entry)) (now (labels .entry))))
         (now (entered .entry)) (now (entered .exit)) ⌝ }
@@ -170,14 +171,18 @@ pub(crate) fn collect(
     labels: &[u8],
     begins: &[usize; 129],
     n: usize,
-    next: &mut [u64; 256],
-    branches: &mut [u64; 256],
-    entries: &mut [u64; 256],
+    next: &mut [u64],
+    branches: &mut [u64],
+    entries: &mut [u64],
     entered: &mut [u64],
 )
     requires { ⌜ Given (now body) (now labels) (now begins)
         × (n ≡ verticesOf (now body))
-        × Collected NoSteps (now next) (now branches) (now entries) (now entered) ⌝ }
+        × Collected NoSteps (now next) (now branches) (now entries) (now entered)
+        × (2 * n ≤ length (now next))
+        × (2 * n ≤ length (now branches))
+        × (2 * n ≤ length (now entries))
+        × LevelsFit (now labels) (now entered) ⌝ }
     ensures { λ _. ⌜ Collected (StepsOf (now (body .entry)) (now (labels .entry)))
         (now (next .exit)) (now (branches .exit)) (now (entries .exit)) (now (entered .exit)) ⌝ }
 {
@@ -197,26 +202,27 @@ pub(crate) fn collect(
 }
 
 // The level becomes that of each vertex of a set.
-fn put_level(low: &mut [usize; 128], set: Set, level: usize)
-    requires { ⌜ length (now low) ≡ 128 ⌝ }
+fn put_level(low: &mut [u8; 128], set: Set, level: usize)
+    requires { ⌜ (length (now low) ≡ 128) × (level < 256) ⌝ }
     ensures { λ _. ⌜ PutFor set level (now (low .entry)) (now (low .exit)) ⌝ }
 {
     let mut left = set;
     let mut v = left.lowest();
     while v < 128 {
-        low[v] = level;
+        low[v] = level as u8;
         left = left.without_lowest();
         v = left.lowest();
     }
 }
 
 // The lowest level of the entries of each vertex, of the levels up to the highest.
-pub(crate) fn lowest_levels(entered: &[u64; 512], top: usize, low: &mut [usize; 128])
-    requires { ⌜ (length (now entered) ≡ 512)
+pub(crate) fn lowest_levels(entered: &[u64], top: usize, low: &mut [u8; 128])
+    requires { ⌜ (2 * top + 2 ≤ length (now entered))
         × (top < 256)
         × NoneAbove (now entered) top
-        × (now low ≡ replicate 128 256) ⌝ }
-    ensures { λ _. ⌜ ((b labels : List ℕ) → Table 256 (Enters (StepsOf b labels)) (now (entered .entry))
+        × (length (now low) ≡ 128) ⌝ }
+    ensures { λ _. ⌜ ((b labels : List ℕ) → checkOf b ≡ Stage.Passed → Bytes labels
+        → TableOf (Enters (StepsOf b labels)) (now (entered .entry))
         → LowestLevels (StepsOf b labels) (now (low .exit))) ⌝ }
 {
     let mut seen = Set::empty();
@@ -230,12 +236,12 @@ pub(crate) fn lowest_levels(entered: &[u64; 512], top: usize, low: &mut [usize; 
 }
 
 // How many numbers the sets of the levels 2 k and 2 k + 1 have. Those of most levels have none, which is seen at once.
-fn sizes(entered: &[u64; 512], k: usize) -> usize
-    requires { ⌜ (length (now entered) ≡ 512) × (k < 128) ⌝ }
+fn sizes(entered: &[u64], k: usize) -> usize
+    requires { ⌜ WholeSets (now entered) × (k < 128) ⌝ }
     ensures { λ r. ⌜ (r ≡ sizesOf (now (entered .entry)) k) × (r ≤ 256) ⌝ }
 {
-    let a = row(entered, 2 * k);
-    let b = row(entered, 2 * k + 1);
+    let a = row_or_empty(entered, 2 * k);
+    let b = row_or_empty(entered, 2 * k + 1);
     if a.is_empty() & b.is_empty() {
         return 0;
     }
@@ -243,10 +249,10 @@ fn sizes(entered: &[u64; 512], k: usize) -> usize
 }
 
 // The number of loops, by the vertices that have an entry of each level up to the highest.
-pub(crate) fn count_loops(entered: &[u64; 512], top: usize) -> usize
-    requires { ⌜ (length (now entered) ≡ 512) × (top < 256) × NoneAbove (now entered) top ⌝ }
+pub(crate) fn count_loops(entered: &[u64], top: usize) -> usize
+    requires { ⌜ WholeSets (now entered) × (top < 256) × NoneAbove (now entered) top ⌝ }
     ensures { λ r. ⌜ ((b labels : List ℕ) → checkOf b ≡ Stage.Passed → Bytes labels
-        → Table 256 (Enters (StepsOf b labels)) (now (entered .entry)) → r ≡ loopsOf b labels) ⌝ }
+        → TableOf (Enters (StepsOf b labels)) (now (entered .entry)) → r ≡ loopsOf b labels) ⌝ }
 {
     let mut loops: usize = 0;
     let mut k: usize = 0;
@@ -257,9 +263,9 @@ pub(crate) fn count_loops(entered: &[u64; 512], top: usize) -> usize
     loops
 }
 
-// Each of the 256 sets with what the later ones have. Those after `top` have nothing.
+// Each set of a table with what the later ones have. Those after `top` have nothing.
 pub(crate) fn join_later(table: &mut [u64], top: usize)
-    requires { ⌜ (length (now table) ≡ 512) × (top < 256) × NoneAbove (now table) top ⌝ }
+    requires { ⌜ (2 * top + 2 ≤ length (now table)) × (top < 256) × NoneAbove (now table) top ⌝ }
     ensures { λ _. ⌜ Gains (InLater (now (table .entry))) (now (table .entry)) (now (table .exit)) ⌝ }
 {
     let mut l = top;

@@ -32,7 +32,12 @@ slice-aggregate-sort-entries-2 : tie.Need-slice-aggregate-sort-entries-2 Inv-loo
 slice-aggregate-sort-entries-2 c = search needs
 
 sort-entries-requires : tie.Need-sort-entries-requires Inv-loop μ-loop
-sort-entries-requires c κs = (c .before .before .before .before .pre .0, c .before .before .before .before .pre .2, search needs, search needs)
+sort-entries-requires c κs = (
+  c .before .before .before .before .before .before .before .pre .0,
+  c .before .before .before .before .before .before .before .pre .2,
+  search needs,
+  search needs,
+)
 
 empty-requires : tie.Need-empty-requires Inv-loop μ-loop
 empty-requires c κs = search needs
@@ -43,7 +48,7 @@ next-level-requires c κs = (c .before .before .before .before .sort-entries .en
 loop-holds : tie.Need-loop-holds Inv-loop μ-loop
 loop-holds c =
     let g = c .before .before .before .before .before .sort-entries .ensures in
-    let j = c .before .before .before .before .before .before .before .before in
+    let j = c .before .before .before .before .before .before .before .before .before .before .before in
     let k = j .before .before in
     let a = k .args in
     let bytes : Bytes (a .labels .now) = λ i. omega (arith, j .shared-slice-known2 .given i) in
@@ -62,10 +67,10 @@ closure-from-requires : tie.Need-closure-from-requires Inv-loop μ-loop
 closure-from-requires c κs =
     let l = c .before .before .before in
     let i = l .loop .inv in
-    let p = l .before .before .before .before .before .before .before .before .before .before .before .pre in
+    let p = l .before .before .before .before .before .before .before .before .before .before .before .before .before .before .pre in
     let T = p .1 .2 in (
-      T .of-branches .long,
-      T .after-long,
+      T .of-branches .whole,
+      omega (arith, p .3, T .after-room),
       rw (p .3) (T .of-after),
       p .2,
       λ x y h e. inl (bodies-closed (i .0) (T .of-branches) (i .4) x y h e),
@@ -77,8 +82,9 @@ intersection-requires c κs = search needs
 loop-check-requires : tie.Need-loop-check-requires Inv-loop μ-loop
 loop-check-requires c κs =
     let t = c .before .before .before .before in
-    let p = t .before .before .before .before .before .before .before .before .before .before .before .before .pre in
-    (p .1 .2 .of-levels .long, p .2, t .loop-test .taken)
+    let p = t .before .before .before .before .before .before .before .before .before .before .before .before .before .before .before
+    .pre in
+    (p .1 .2 .of-levels .whole, p .2, t .loop-test .taken)
 
 enum-told : tie.Need-enum-told Inv-loop μ-loop
 enum-told c = search needs
@@ -91,7 +97,8 @@ returns c =
     let f = c .before .before .before .before in
     let t = f .before .before .before in
     let i = t .before .loop .inv in
-    let p = t .before .before .before .before .before .before .before .before .before .before .before .before .pre in
+    let p = t .before .before .before .before .before .before .before .before .before .before .before .before .before .before .before
+    .pre in
     let l = t .loop-test .taken in
     let to = loop-targets (i .3) (i .4 .low) l (f .before .row .ensures) in
     let both = c .before .before .before .intersection .ensures in
@@ -113,7 +120,8 @@ loop-again c =
     let f = c .before .before .before .before .before .before in
     let t = f .before .before .before in
     let i = t .before .loop .inv in
-    let p = t .before .before .before .before .before .before .before .before .before .before .before .before .pre in
+    let p = t .before .before .before .before .before .before .before .before .before .before .before .before .before .before .before
+    .pre in
     let l = t .loop-test .taken in
     let to = loop-targets (i .3) (i .4 .low) l (f .before .row .ensures) in
     let both = c .before .before .before .before .before .intersection .ensures in

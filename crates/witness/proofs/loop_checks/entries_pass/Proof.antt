@@ -39,7 +39,7 @@ element-copy-out-i c = search needs
 
 loop-holds : tie.Need-loop-holds Inv-loop μ-loop
 loop-holds c =
-    let p = c .before .before .before .before .pre in
+    let p = c .before .before .before .before .before .before .pre in
     let R = p .0 .of-begins in
     (well-formed _ (p .0 .passed), p .0 .long, begin-high R _ (p .3), le-refl _, begin-order R _ (p .3), marking-none)
 
@@ -64,11 +64,18 @@ slice-aggregate-entry-passes c = search needs
 entry-passes-requires : tie.Need-entry-passes-requires Inv-loop μ-loop
 entry-passes-requires c κs =
     let l = c .before .before .before .before .loop in
-    let p = c .before .before .before .before .before .before .before .before .before .pre in
+    let p = c .before .before .before .before .before .before .before .before .before .before .before .pre in
     let t = l .inv .0 .each (l .i) (omega arith) in
     let w = c .before .before .byte .ensures .0 in
     let n = l .inv .0 .header .vertices-high in
-    (p .1, p .2, p .3, c .before .byte2 .ensures .1, omega (arith, w, t .to-high, n), l .inv .5 .long)
+    let b = c .before .byte2 .ensures in (
+      omega (arith, w, t .to-high, p .1),
+      omega (arith, w, t .to-high, n),
+      omega (arith, p .2 (l .i) (omega (arith, p .0 .long)), b .0),
+      b .1,
+      p .3,
+      l .inv .5 .long,
+    )
 
 returns : tie.Need-returns Inv-loop μ-loop
 returns c = λ e. absurd (false≢true e)
@@ -84,7 +91,7 @@ loop-again c =
     let k = c .before .before .before .before in
     let l = k .before .before .before .loop in
     let i = l .inv in
-    let p = k .before .before .before .before .before .before .before .before .pre in
+    let p = k .before .before .before .before .before .before .before .before .before .before .pre in
     let u = leaves-v (p .0 .of-begins) _ (p .3) (l .i) (i .3) (k .before .before .loop-test .taken) in
     let w = k .before .byte .ensures .0 in
     let passes = not-false _ (c .if1 .left) in
@@ -98,7 +105,7 @@ all-return-requires c κs = c .before .before .loop .inv .5 .long
 returns-2 : tie.Need-returns-2 Inv-loop μ-loop
 returns-2 c = λ e.
     let l = c .before .before .before .loop in
-    let b = c .before .before .before .before .before .before in
+    let b = c .before .before .before .before .before .before .before .before in
     let k = b .before .before in
     let z : l .i ≡ getD (k .args .begins .now) (k .args .v + 1) 0 = omega arith in
     entries-passed (k .pre .0 .of-begins) (k .pre .3) z (λ j. omega (arith, b .shared-slice-known2 .given j)) (l .inv .5)

@@ -20,7 +20,8 @@ returns-2 : tie.Need-returns-2
 returns-2 c =
     let t = c .before .before .before .before in
     let k = t .before in
-    mark-back (k .before .before .before .pre .5) (c .before .before .mark .ensures) (k .comes-back .ensures .0 (t .if2 .taken))
+    mark-back (k .before .before .before .before .before .pre .5) (c .before .before .mark .ensures)
+    (k .comes-back .ensures .0 (t .if2 .taken))
 
 add-mark : tie.Need-add-mark
 add-mark c = search needs
@@ -34,7 +35,7 @@ same-length-2 c = search needs
 returns-3 : tie.Need-returns-3
 returns-3 c =
     let k = c .before .before .before in
-    let p = k .before .before .before .before .before .before .pre in
+    let p = k .before .before .before .before .before .before .before .before .pre in
     mark-other (p .5) (k .mark2 .ensures) (p .3) (λ e. inl (c .if3 .taken))
 
 is-below-requires : tie.Need-is-below-requires
@@ -46,7 +47,7 @@ same-length-3 c = search needs
 returns-4 : tie.Need-returns-4
 returns-4 c =
     let k = c .before .before .before .before in
-    let p = k .before .before .before .before .before .before .pre in
+    let p = k .before .before .before .before .before .before .before .before .pre in
     mark-other (p .5) (k .mark2 .ensures) (p .3) (λ e. inr (c .is-below .ensures e))
 
 pub entry-passes-spec : {M : Type 1} → statement M

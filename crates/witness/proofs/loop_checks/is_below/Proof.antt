@@ -27,7 +27,7 @@ is-empty-requires c κs = search needs
 
 returns-2 : tie.Need-returns-2
 returns-2 c = λ e.
-    let k = c .before .before .before .before in
+    let k = c .before .before .before in
     let w = k .before .before in
     let all = rw (w .before .row .ensures) at (w .with .ensures) in
     let both = rw (c .before .before .row2 .ensures) at (c .before .intersection .ensures) in

@@ -8,7 +8,7 @@ is-empty-requires : tie.Need-is-empty-requires
 is-empty-requires c κs = search needs
 
 returns : tie.Need-returns
-returns c = λ b labels g. loop-33 (c .before .before .pre .2) g (c .before .is-empty .ensures .0 (c .if1 .taken))
+returns c = λ b labels g. loop-33 (c .before .before .before .pre .2) g (c .before .is-empty .ensures .0 (c .if1 .taken))
 
 contains-requires : tie.Need-contains-requires
 contains-requires c κs = search needs
@@ -17,7 +17,7 @@ returns-2 : tie.Need-returns-2
 returns-2 c = λ b labels g.
     let k = c .before .before in
     let some = not-so (k .before .is-empty .ensures) (k .if1 .left) in
-    loop-34 (k .before .before .pre .2) g some (c .before .contains .ensures .0 (c .if2 .taken))
+    loop-34 (k .before .before .before .pre .2) g some (c .before .contains .ensures .0 (c .if2 .taken))
 
 not-lower-requires : tie.Need-not-lower-requires
 not-lower-requires c κs = search needs
@@ -28,7 +28,7 @@ returns-3 c = λ b labels g.
     let k = j .before .before in
     let some = not-so (k .before .is-empty .ensures) (k .if1 .left) in
     let endless = not-so (j .before .contains .ensures) (j .if2 .left) in
-    loop-35 (k .before .before .pre .2) g some endless (c .before .not-lower .ensures) (c .if3 .taken)
+    loop-35 (k .before .before .before .pre .2) g some endless (c .before .not-lower .ensures) (c .if3 .taken)
 
 returns-4 : tie.Need-returns-4
 returns-4 c = λ b labels g.
@@ -36,7 +36,7 @@ returns-4 c = λ b labels g.
     let k = j .before .before in
     let some = not-so (k .before .is-empty .ensures) (k .if1 .left) in
     let endless = not-so (j .before .contains .ensures) (j .if2 .left) in
-    loop-passes (k .before .before .pre .2) g some endless (c .before .not-lower .ensures) (c .if3 .left)
+    loop-passes (k .before .before .before .pre .2) g some endless (c .before .not-lower .ensures) (c .if3 .left)
 
 pub loop-check-spec : {M : Type 1} → statement M
 loop-check-spec =

@@ -3,8 +3,8 @@ use borrow.Author.Needs.{needs}
 use Rattle.witness.proofs.loop_checks.not_lower.Statement.{statement}
 use Rattle.witness.proofs.loop_checks.not_lower.Tie as tie
 
-row-requires : tie.Need-row-requires
-row-requires c κs = search needs
+row-or-empty-requires : tie.Need-row-or-empty-requires
+row-or-empty-requires c κs = search needs
 
 intersection-requires : tie.Need-intersection-requires
 intersection-requires c κs = search needs
@@ -17,7 +17,7 @@ lowest-requires c κs = search needs
 
 returns : tie.Need-returns
 returns c =
-    let R = c .before .before .before .row .ensures in
+    let R = c .before .before .before .row-or-empty .ensures in
     first-as (λ w h.
     let W = c .before .without .ensures w in
     let I = rw R at (c .before .before .intersection .ensures w) in
@@ -26,4 +26,9 @@ returns c =
 pub not-lower-spec : {M : Type 1} → statement M
 not-lower-spec =
     tie.close
-    (tie.spec row-requires intersection-requires without-requires lowest-requires returns)
+    (tie.spec
+    row-or-empty-requires
+    intersection-requires
+    without-requires
+    lowest-requires
+    returns)

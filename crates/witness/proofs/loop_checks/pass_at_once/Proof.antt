@@ -13,8 +13,8 @@ below-level-requires c κs = search needs
 returns : tie.Need-returns
 returns c = λ e. absurd (false≢true e)
 
-row-requires : tie.Need-row-requires
-row-requires c κs = search needs
+row-or-empty-requires : tie.Need-row-or-empty-requires
+row-or-empty-requires c κs = search needs
 
 difference-requires : tie.Need-difference-requires
 difference-requires c κs = search needs
@@ -24,11 +24,11 @@ is-empty-requires c κs = search needs
 
 returns-2 : tie.Need-returns-2
 returns-2 c = λ e.
-    let j = c .before .before .before .before .before in
-    let k = j .before .before in
+    let j = c .before .before .before .before in
+    let k = j .before .before .before .before .before .before in
     let p = k .before .before .pre in
     let w = well-formed _ (p .0 .passed) in
-    let d = rw (c .before .before .before .row .ensures) at (c .before .before .difference .ensures) in
+    let d = rw (c .before .before .before .row-or-empty .ensures) at (c .before .before .difference .ensures) in
     let each = entries-return w (p .1 .1) (p .2) (p .4) d (c .before .is-empty .ensures .0 (c .if2 .taken)) in
     let below = j .before .below-level .ensures (not-false _ (j .if1 .left)) in
     vertex-passes w (p .1 .1) (p .2) (p .4) d (p .1 .2) (p .3) (λ i. omega (arith, k .shared-slice-known2 .given i))
@@ -36,30 +36,37 @@ returns-2 c = λ e.
 
 byte-requires : tie.Need-byte-requires
 byte-requires c κs =
-    let j = c .before .before .before .before .before in
-    let w = well-formed _ (j .before .before .before .before .pre .0 .passed) .header .long in
+    let j = c .before .before .before .before in
+    let w = well-formed _ (j .before .before .before .before .before .before .before .before .pre .0 .passed) .header .long in
     omega arith
 
 reaches-below-requires : tie.Need-reaches-below-requires
 reaches-below-requires c κs =
-    let j = c .before .before .before .before .before .before in
-    let p = j .before .before .before .before .pre in
-    let T = p .1 .1 in
-    (T .of-branches .long, T .after-long, T .of-levels .long, rw (c .byte .ensures .0) (T .of-after), p .2, p .3)
+    let j = c .before .before .before .before .before in
+    let p = j .before .before .before .before .before .before .before .before .pre in
+    let T = p .1 .1 in (
+      T .of-branches .whole,
+      omega (arith, c .byte .ensures .0, T .after-room),
+      T .of-levels .whole,
+      rw (c .byte .ensures .0)
+          (T .of-after),
+      p .2,
+      p .3,
+    )
 
 entries-pass-requires : tie.Need-entries-pass-requires
 entries-pass-requires c κs =
-    let j = c .before .before .before .before .before .before .before in
-    let p = j .before .before .before .before .pre in
-    (p .0, p .1 .1 .after-long, p .1 .1 .of-levels .long, p .2)
+    let j = c .before .before .before .before .before .before in
+    let p = j .before .before .before .before .before .before .before .before .pre in
+    (p .0, p .1 .1 .after-room, p .1 .1 .levels-fit, p .2)
 
 returns-3 : tie.Need-returns-3
 returns-3 c = λ e.
     let i = c .before .before .before .before .before in
-    let j = i .before .before .before in
-    let k = j .before .before in
+    let j = i .before .before in
+    let k = j .before .before .before .before .before .before in
     let p = k .before .before .pre in
-    let d = rw (i .before .row .ensures) at (i .difference .ensures) in
+    let d = rw (i .before .row-or-empty .ensures) at (i .difference .ensures) in
     let below = j .before .below-level .ensures (not-false _ (j .if1 .left)) in
     let w = well-formed _ (p .0 .passed) in
     vertex-passes w (p .1 .1) (p .2) (p .4) d (p .1 .2) (p .3) (λ i. omega (arith, k .shared-slice-known2 .given i))
@@ -71,7 +78,7 @@ pass-at-once-spec =
     (tie.spec
     below-level-requires
     returns
-    row-requires
+    row-or-empty-requires
     difference-requires
     is-empty-requires
     returns-2

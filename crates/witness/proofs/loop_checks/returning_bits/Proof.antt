@@ -1,21 +1,23 @@
-use mathlib.Core.Path.{_≡_}
-use Prim.Native.Nat.{ℕ, _+_, _≤_, _<_}
+use Prim.Native.Nat.{ℕ, _+_, _*_, _≤_, _<_}
 use native.Mathlib.Omega.{arith}
 use lib.ListN.{length}
 use Rattle.witness.specs.Loops.{Back}
+use Rattle.bits.specs.Words.{On}
 use Rattle.witness.proofs.Sifting.{Sifting, sift-none, sift-more, sift-all}
 use borrow.Author.Needs.{needs}
 use Rattle.witness.proofs.loop_checks.returning_bits.Statement.{statement}
 use Rattle.witness.proofs.loop_checks.returning_bits.Tie as tie
 
 abbrev Inv-loop : tie.InvT-loop
-Inv-loop after v from word found₀ left₀ found left = (length after ≡ 256) × (v < 128) × (from ≤ 64) × Sifting (λ (k : ℕ). Back after v (from + k)) word left found
+Inv-loop after v from word found₀ left₀ found left =
+    ((k : ℕ) → On word k → 2 * (from + k) + 2 ≤ length after) × (v < 128) × (from ≤ 64)
+    × Sifting (λ (k : ℕ). Back after v (from + k)) word left found
 
 abbrev μ-loop : tie.MeasureT-loop
 μ-loop after v from word found₀ left₀ found left = left
 
 loop-holds : tie.Need-loop-holds Inv-loop μ-loop
-loop-holds c = (c .pre .0, c .pre .1, c .pre .2, sift-none)
+loop-holds c = (c .before .pre .0, c .before .pre .1, c .before .pre .2, sift-none)
 
 lowest-bit-requires : tie.Need-lowest-bit-requires Inv-loop μ-loop
 lowest-bit-requires c κs = search needs
@@ -24,7 +26,10 @@ add-with-back : tie.Need-add-with-back Inv-loop μ-loop
 add-with-back c = omega (arith, c .lowest-bit .ensures .within)
 
 with-back-requires : tie.Need-with-back-requires Inv-loop μ-loop
-with-back-requires c κs = let i = c .before .before .loop .inv in (c .lowest-bit .ensures .within, i .0, i .1, omega (arith, c .lowest-bit .ensures .within))
+with-back-requires c κs =
+    let i = c .before .before .loop .inv in
+    let L = c .lowest-bit .ensures in
+    (L .within, i .0 _ (i .3 .rest _ (L .on)), i .1)
 
 without-lowest-requires : tie.Need-without-lowest-requires Inv-loop μ-loop
 without-lowest-requires c κs = search needs

@@ -1,4 +1,4 @@
-use Rattle.witness.proofs.Nested.{nothing-known, alone-reached, alone-closed, inside-closed, nested-reached, nested-closed}
+use Rattle.witness.proofs.Nested.{alone-reached, alone-closed}
 use borrow.Author.Needs.{needs}
 use Rattle.witness.proofs.loop_checks.surrounding.Statement.{statement}
 use Rattle.witness.proofs.loop_checks.surrounding.Tie as tie
@@ -18,27 +18,14 @@ closure-requires c κs = search needs
 returns : tie.Need-returns
 returns c = let M = c .closure .ensures in (alone-reached M, alone-closed M)
 
-without-requires : tie.Need-without-requires
-without-requires c κs = search needs
-
-with-requires : tie.Need-with-requires
-with-requires c κs = search needs
-
-closure-from-requires : tie.Need-closure-from-requires
-closure-from-requires c κs =
-    let p = c .before .before .before .before .before .before .pre in
-    (p .0, p .0, nothing-known _ _, p .2, inside-closed _ (p .5) (c .before .without .ensures) (c .with .ensures))
+widened-requires : tie.Need-widened-requires
+widened-requires c κs = search needs
 
 below-level-requires : tie.Need-below-level-requires
 below-level-requires c κs = search needs
 
 returns-2 : tie.Need-returns-2
-returns-2 c =
-    let r = c .before .before in
-    let C = r .before .before .before .before .before .before .before .pre .5 in
-    let O = r .before .before .without .ensures in
-    let W = r .before .with .ensures in
-    (nested-reached _ C O W (r .closure-from .ensures), nested-closed _ C O W (r .closure-from .ensures))
+returns-2 c = c .before .before .widened .ensures
 
 closure-requires-2 : tie.Need-closure-requires-2
 closure-requires-2 c κs = search needs
@@ -55,9 +42,7 @@ surrounding-spec =
     is-empty-requires
     closure-requires
     returns
-    without-requires
-    with-requires
-    closure-from-requires
+    widened-requires
     below-level-requires
     returns-2
     closure-requires-2

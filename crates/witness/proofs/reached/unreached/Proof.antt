@@ -3,7 +3,7 @@ use mathlib.Core.List.{List}
 use Prim.Native.Nat.{ℕ}
 use native.Mathlib.Omega.{arith}
 use Rattle.bits.specs.Sets.{Members}
-use Rattle.bits.specs.Tables.{Table}
+use Rattle.bits.specs.Tables.{TableOf}
 use Rattle.theory.specs.Charts.{Any}
 use Rattle.theory.specs.Paths.{Star}
 use Rattle.chart.specs.Bodies.{startOf}
@@ -15,12 +15,12 @@ use Rattle.witness.proofs.reached.unreached.Tie as tie
 
 -- the closure is what the start reaches
 abbrev entry : tie.After-closure → tie.Start
-entry k = k .before .before .before .before .before .before
+entry k = k .before .before .before .before .before .before .before
 
 abbrev Next : tie.After-closure → List ℕ → ℕ → ℕ → Type 0
 Next k labels = Any (StepsOf (entry k .args .body .now) labels)
 
-reached : (k : tie.After-closure) (labels : List ℕ) → Table 128 (Next k labels) (entry k .args .next .now)
+reached : (k : tie.After-closure) (labels : List ℕ) → TableOf (Next k labels) (entry k .args .next .now)
     → Members (Star (Next k labels) (startOf (entry k .args .body .now))) (k .closure .result)
 reached k labels T =
     let w = well-formed _ (entry k .pre .0) in
@@ -29,16 +29,16 @@ reached k labels T =
     members-reached w T (omega (arith, w .header .start-high, w .header .vertices-high)) here (k .closure .ensures)
 
 byte-requires : tie.Need-byte-requires
-byte-requires c κs = let w = well-formed _ (c .before .pre .0) .header .long in omega arith
+byte-requires c κs = let w = well-formed _ (c .before .before .pre .0) .header .long in omega arith
 
 empty-requires : tie.Need-empty-requires
 empty-requires c κs = search needs
 
 byte-requires-2 : tie.Need-byte-requires-2
-byte-requires-2 c κs = let w = well-formed _ (c .before .before .before .pre .0) .header .long in omega arith
+byte-requires-2 c κs = let w = well-formed _ (c .before .before .before .before .pre .0) .header .long in omega arith
 
 with-requires : tie.Need-with-requires
-with-requires c κs = let w = well-formed _ (c .before .before .before .before .pre .0) .header in omega arith
+with-requires c κs = let w = well-formed _ (c .before .before .before .before .before .pre .0) .header in omega arith
 
 closure-requires : tie.Need-closure-requires
 closure-requires c κs = search needs
@@ -49,7 +49,7 @@ with-requires-2 c κs = search needs
 below-requires : tie.Need-below-requires
 below-requires c κs =
     let e = c .before .before .before .before .before .byte .ensures .0 in
-    omega (arith, e, well-formed _ (c .before .before .before .before .before .before .before .pre .0) .header .vertices-high)
+    omega (arith, e, well-formed _ (c .before .before .before .before .before .before .before .before .pre .0) .header .vertices-high)
 
 difference-requires : tie.Need-difference-requires
 difference-requires c κs = search needs

@@ -1,21 +1,21 @@
-use mathlib.Core.Path.{_≡_}
 use Prim.Native.Nat.{_*_, _-_, _≤_, _<_}
 use native.Mathlib.Omega.{arith}
-use lib.ListN.{length}
 use Rattle.witness.specs.Given.{NoneAbove}
+use Rattle.bits.specs.Tables.{WholeSets}
 use Rattle.witness.proofs.Sizes.{CountedTo, counted-begin, counted-two, counted-all}
 use borrow.Author.Needs.{needs}
 use Rattle.witness.proofs.tables.count_loops.Statement.{statement}
 use Rattle.witness.proofs.tables.count_loops.Tie as tie
 
 abbrev Inv-loop : tie.InvT-loop
-Inv-loop entered top loops₀ k₀ loops k = (length entered ≡ 512) × (top < 256) × NoneAbove entered top × (k ≤ 128) × (loops ≤ 256 * k) × CountedTo entered (2 * k) loops
+Inv-loop entered top loops₀ k₀ loops k = WholeSets entered × (top < 256) × NoneAbove entered top × (k ≤ 128) × (loops ≤ 256 * k)
+    × CountedTo entered (2 * k) loops
 
 abbrev μ-loop : tie.MeasureT-loop
 μ-loop entered top loops₀ k₀ loops k = 128 - k
 
 loop-holds : tie.Need-loop-holds Inv-loop μ-loop
-loop-holds c = (c .pre .0, c .pre .1, c .pre .2, omega arith, omega arith, counted-begin)
+loop-holds c = (c .before .pre .0, c .before .pre .1, c .before .pre .2, omega arith, omega arith, counted-begin)
 
 mul-loop : tie.Need-mul-loop Inv-loop μ-loop
 mul-loop c = search needs

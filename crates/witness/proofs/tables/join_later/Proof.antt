@@ -1,5 +1,4 @@
-use mathlib.Core.Path.{_≡_}
-use Prim.Native.Nat.{_≤_, _-_}
+use Prim.Native.Nat.{_+_, _-_, _*_, _≤_}
 use native.Mathlib.Omega.{arith}
 use lib.ListN.{length}
 use Rattle.bits.specs.Tables.{Gains}
@@ -8,7 +7,7 @@ use Rattle.witness.proofs.tables.join_later.Statement.{statement}
 use Rattle.witness.proofs.tables.join_later.Tie as tie
 
 abbrev Inv-loop : tie.InvT-loop
-Inv-loop table₀ top l₀ table l = (length table₀ ≡ 512) × (l ≤ 255) × Gains (Later table₀ l) table₀ table
+Inv-loop table₀ top l₀ table l = (2 * l + 2 ≤ length table₀) × (l ≤ 255) × Gains (Later table₀ l) table₀ table
 
 abbrev μ-loop : tie.MeasureT-loop
 μ-loop table₀ top l₀ table l = l
@@ -33,7 +32,7 @@ loop-again c =
     let l = c .before .before .before .before .before .before .before .loop in
     let i = l .inv in
     let joined = rw (c .before .before .before .before .row .ensures) at (c .before .before .join .ensures) in
-    (i .0, omega arith, later-more (l .l - 1) (l .l) (omega arith) (omega arith) (i .0) (i .2) joined)
+    (omega (arith, i .0), omega arith, later-more (l .l - 1) (l .l) (omega arith) (omega arith) (i .0) (i .2) joined)
 
 same-length : tie.Need-same-length Inv-loop μ-loop
 same-length c = c .before .loop .inv .2 .long

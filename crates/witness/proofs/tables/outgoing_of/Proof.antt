@@ -3,13 +3,13 @@ use mathlib.Core.Path.{_≡_}
 use Prim.Native.Nat.{_+_, _-_, _≤_}
 use native.Mathlib.Nat.{le-refl}
 use native.Mathlib.Omega.{arith}
-use lib.ListN.{length, getD}
+use lib.ListN.{getD}
 use Rattle.bits.specs.Tables.{Gains}
 use Rattle.bits.proofs.Gains.{gains-none}
 use Rattle.chart.specs.Bodies.{countOf}
 use Rattle.chart.proofs.Checks.{well-formed}
 use Rattle.chart.proofs.Order.{begin-order, begin-high}
-use Rattle.witness.specs.Given.{Enters, OutgoingOf}
+use Rattle.witness.specs.Given.{LevelsFit, Enters, OutgoingOf}
 use Rattle.witness.proofs.Runs.{gets-on}
 use Rattle.witness.proofs.Collecting.{outgoing-none, outgoing-more, enters-more, outgoing-all}
 use Rattle.witness.proofs.Seen.{Seen, seen-none, enters-all}
@@ -18,7 +18,7 @@ use Rattle.witness.proofs.tables.outgoing_of.Tie as tie
 
 abbrev Inv-loop : tie.InvT-loop
 Inv-loop body labels begins ones u entered₀ end branches₀ entries₀ i₀ entered branches entries i =
-    (end ≤ countOf body) × (length entered₀ ≡ 512) × (i₀ ≤ i) × (i ≤ end)
+    (end ≤ countOf body) × LevelsFit labels entered₀ × (i₀ ≤ i) × (i ≤ end)
     × OutgoingOf (Seen body labels i₀ i) u (record { branches = branches; entries = entries })
     × Gains (Enters (Seen body labels i₀ i)) entered₀ entered
 
@@ -67,7 +67,7 @@ take-entries-requires c κs =
       record { formed = well-formed _ (p .0 .passed); ordered = T .to; within = i .0; of-ones = p .1 },
       p .0 .long,
       p .2,
-      omega (arith, i .1, i .5 .long),
+      λ j h. omega (arith, i .1 j h, i .5 .long),
     )
 
 loop-less : tie.Need-loop-less Inv-loop μ-loop

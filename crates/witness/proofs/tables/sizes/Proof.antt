@@ -5,20 +5,20 @@ use borrow.Author.Needs.{needs}
 use Rattle.witness.proofs.tables.sizes.Statement.{statement}
 use Rattle.witness.proofs.tables.sizes.Tie as tie
 
-mul-row : tie.Need-mul-row
-mul-row c = search needs
+mul-row-or-empty : tie.Need-mul-row-or-empty
+mul-row-or-empty c = search needs
 
-row-requires : tie.Need-row-requires
-row-requires c κs = search needs
+row-or-empty-requires : tie.Need-row-or-empty-requires
+row-or-empty-requires c κs = search needs
 
-mul-row-2 : tie.Need-mul-row-2
-mul-row-2 c = search needs
+mul-row-or-empty-2 : tie.Need-mul-row-or-empty-2
+mul-row-or-empty-2 c = search needs
 
-add-row : tie.Need-add-row
-add-row c = search needs
+add-row-or-empty : tie.Need-add-row-or-empty
+add-row-or-empty c = search needs
 
-row-requires-2 : tie.Need-row-requires-2
-row-requires-2 c κs = search needs
+row-or-empty-requires-2 : tie.Need-row-or-empty-requires-2
+row-or-empty-requires-2 c κs = search needs
 
 is-empty-requires : tie.Need-is-empty-requires
 is-empty-requires c κs = search needs
@@ -29,8 +29,8 @@ is-empty-requires-2 c κs = search needs
 returns : tie.Need-returns
 returns c =
     let (e, f) = decides-and (c .before .before .is-empty .ensures) (c .before .is-empty2 .ensures) .0 (c .if1 .taken) in
-    let p = empty-size _ (rw (c .before .before .before .before .before .row .ensures) at e) in
-    let q = empty-size _ (rw (c .before .before .before .row2 .ensures) at f) in
+    let p = empty-size _ (rw (c .before .before .before .before .row-or-empty .ensures) at e) in
+    let q = empty-size _ (rw (c .before .before .before .row-or-empty2 .ensures) at f) in
     (omega (arith, p, q), omega arith)
 
 count-requires : tie.Need-count-requires
@@ -44,19 +44,19 @@ add-result c = search needs
 
 returns-2 : tie.Need-returns-2
 returns-2 c =
-    let p = rw (c .before .before .before .before .before .before .before .row .ensures) at (c .before .count .ensures .0) in
-    let q = rw (c .before .before .before .before .before .row2 .ensures) at (c .count2 .ensures .0) in
+    let p = rw (c .before .before .before .before .before .before .row-or-empty .ensures) at (c .before .count .ensures .0) in
+    let q = rw (c .before .before .before .before .before .row-or-empty2 .ensures) at (c .count2 .ensures .0) in
     (omega (arith, p, q), omega (arith, c .before .count .ensures .1, c .count2 .ensures .1))
 
 pub sizes-spec : {M : Type 1} → statement M
 sizes-spec =
     tie.close
     (tie.spec
-    mul-row
-    row-requires
-    mul-row-2
-    add-row
-    row-requires-2
+    mul-row-or-empty
+    row-or-empty-requires
+    mul-row-or-empty-2
+    add-row-or-empty
+    row-or-empty-requires-2
     is-empty-requires
     is-empty-requires-2
     returns

@@ -4,14 +4,14 @@ use native.Mathlib.Omega.{arith}
 use lib.ListN.{length}
 use Rattle.bits.specs.Tables.{Gains}
 use Rattle.chart.specs.Bodies.{countOf}
-use Rattle.witness.specs.Given.{Run, IsEntry, Took, LevelsOf}
+use Rattle.witness.specs.Given.{LevelsFit, Run, IsEntry, Took, LevelsOf}
 use Rattle.witness.proofs.Runs.{run-place, run-target, took-none, took-one, levels-none, levels-one}
 use Rattle.witness.proofs.tables.take_entries.Statement.{statement}
 use Rattle.witness.proofs.tables.take_entries.Tie as tie
 
 abbrev Inv-loop : tie.InvT-loop
 Inv-loop body labels ones u at end entered₀ all₀ i₀ entered all i =
-    Run body ones at end × (length labels ≡ countOf body) × (length entered₀ ≡ 512)
+    Run body ones at end × (length labels ≡ countOf body) × LevelsFit labels entered₀
     × Took body (IsEntry labels) at end all₀ (record { set = all; at = i })
     × Gains (LevelsOf labels at i u) entered₀ entered
 
@@ -38,8 +38,15 @@ returns c =
 insert-requires : tie.Need-insert-requires Inv-loop μ-loop
 insert-requires c κs =
     let k = c .before .before .before .before in
-    let i = k .loop .inv in
-    (omega (arith, i .2, i .4 .long, c .before .before .byte .ensures .1), k .before .before .before .before .pre .2)
+    let i = k .loop .inv in (
+      omega (
+        arith,
+        i .2 (k .loop .i) (omega (arith, i .0 .within, i .1, c .before .before .before .loop-test .taken)),
+        i .4 .long,
+        c .before .before .byte .ensures .0,
+      ),
+      k .before .before .before .before .pre .2,
+    )
 
 mul-byte : tie.Need-mul-byte Inv-loop μ-loop
 mul-byte c =
