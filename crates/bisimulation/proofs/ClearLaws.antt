@@ -3,11 +3,10 @@ use mathlib.Core.Path.{_≡_, refl, sym, subst}
 use mathlib.Core.Logic.{_≢_, _⊎_, inl, inr, ⊎-elim, _↔_, by-cases}
 use mathlib.Core.List.{List}
 use Prim.Native.Nat.{ℕ, _+_, _/_, _%_, _^_, _≤_, _<_}
-use native.Mathlib.Decide.{ℕ-discrete}
+use native.Mathlib.Decide.{ℕ-discrete, decLt}
 use native.Mathlib.Omega.{arith}
 use lib.ListN.{getD, replicate}
-use Rattle.theory.specs.Systems.{converse}
-use Rattle.theory.specs.Relations.{AllMatched, related, all-pass}
+use Rattle.theory.specs.Relations.{related, all-pass}
 use Rattle.report.specs.declared.Stage.the-variants.{Passed}
 use Rattle.bits.specs.Bits.{Bytes}
 use Rattle.bits.specs.declared.sets.Set.{Set}
@@ -22,13 +21,14 @@ use Rattle.chart.proofs.Checks.{well-formed}
 use Rattle.chart.proofs.Order.{at-mid, between}
 use Rattle.bisimulation.specs.declared.clearing.Latest.{Latest}
 use Rattle.bisimulation.specs.declared.clearing.Matches.{Matches}
-use Rattle.bisimulation.specs.Relations.{indexedOf}
 use Rattle.bisimulation.specs.Answers.{Related, RelationFits, Passes, CheckedAnswer, NumberedChart}
-use Rattle.bisimulation.specs.Suspects.{Column, Into, Acting, UsedBy, Used, Match, MatchedIn}
+use Rattle.bisimulation.specs.Suspects.{Stretch, Column, Into, Acting, UsedBy, Used, Match, MatchedIn}
+use Rattle.bisimulation.specs.Runs.{MatchedAlike}
 use Rattle.bisimulation.specs.Suspects.{Clear, Able, Knows, Walked, Cleared, SameEnd, Refusable, Gathered}
 use Rattle.bisimulation.specs.Classes.{Unsuspected}
 use Rattle.bisimulation.specs.Pairs.{StepTables, Sought}
-use Rattle.bisimulation.proofs.StepLaws.{step-of, at-step, match-low, is-matched}
+use Rattle.bisimulation.proofs.RunLaws.{same-match}
+use Rattle.bisimulation.proofs.StepLaws.{pair-passes, step-fits, match-low}
 
 -- `matching`: x and y are the target and the action that the code reads
 pub match-read : (into acting body : List ℕ) (i r : ℕ) {x y : ℕ} → x ≡ toOf body i → y ≡ actionOf body i
@@ -106,6 +106,20 @@ module _ {into acting users body : List ℕ} {a : ℕ} {set : Set} {matched last
         found k (inl on) = let (j, f, h, M) = S .matches k on in (j, f, omega arith, M)
         found k (inr on) = (i, S .from, omega arith, E k .0 on)
 
+-- and those after it that the same steps match
+pub walk-run : {into acting users body : List ℕ} {a i b n : ℕ} {set able : Set} {matched last : ℕ}
+    → Walking into acting users body a set matched last able (i + 1) → a ≤ i → Stretch (MatchedAlike into body i) b i n
+    → Walking into acting users body a set matched last able n
+walk-run {acting = acting} {i = i} S from T = record {
+  from = omega (arith, T .some);
+  matches = λ k on. let (j, f, h, M) = S .matches k on in (j, f, omega (arith, T .some), M);
+  given = S .given;
+  all = λ u h j l m. by-cases (decLt j i)
+      (λ g. S .all u h j l (omega arith))
+      (λ g. let (k, M, r) = S .all u h i from (omega arith) in (k, same-match acting k (T .each j (omega arith) m) M, r));
+  same = S .same;
+}
+
 -- 43 as sets
 pub ends-zero : {v : ℕ} {set zero one r : Set} → v ≡ 0 → zero ≡ emptySet → ((y : ℕ) → Has one y ↔ (Has zero y ⊎ (y ≡ 0))) → Intersection set one r → Members (SameEnd v set) r
 ends-zero {v} {set} {zero} {one} {r} e z W I = record { exactly = λ u l. (there u, λ (h, A). I u .1 (h, W u .1 (inr (A .1 e)))) }
@@ -177,21 +191,9 @@ step-tables {keys} {e = e} {m = m} N I A =
 module _ {into acting words body e relation : List ℕ} (B : Bytes body) (W : WellFormed body)
     (T : StepTables into acting words e relation) where
   clear-passes : {u v : ℕ} → Clear into acting words body u v → Passes e body relation u v
-  clear-passes {u} {v} C = record { c43 = C .ends; c44 = forth; c45 = back }
-    where
-      forth : AllMatched (indexedOf e) (indexedOf body) (Related relation) u v
-      forth i h f =
-          let (k, low, a, t, on) = step-of T u i h f in
-          let (j, g, p, M) = C .forth k on in
-          let (q, r) = is-matched B W T i k j a t g M in
-          (j, g, p, q, r)
-
-      back : AllMatched (indexedOf body) (indexedOf e) (converse (Related relation)) v u
-      back j h f =
-          let (k, on, M) = C .back j h f in
-          let (i, g, p, a, t) = at-step T u k on in
-          let (q, s) = is-matched B W T i k j a t h M in
-          (i, g, p, sym q, s)
+  clear-passes C = pair-passes (T .numbered) (C .ends)
+      (λ k on. let (j, g, p, M) = C .forth k on in (j, g, p, step-fits B W T j k g M))
+      (λ j h f. let (k, on, M) = C .back j h f in (k, on, step-fits B W T j k h M))
 
   -- where no vertex is a suspect
   pub all-clear : {suspects : Set} → Unsuspected into acting words body relation suspects → Empty suspects

@@ -6,7 +6,9 @@ pub mod Openings
 pub mod TableLaws
 pub mod PlaceLaws
 pub mod StepLaws
+pub mod RunLaws
 pub mod ClassLaws
 pub mod SuspectLaws
 pub mod ClearLaws
 pub mod PairLaws
+pub mod SmallLaws

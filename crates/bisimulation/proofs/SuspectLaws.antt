@@ -4,7 +4,7 @@ use mathlib.Core.Logic.{_≢_, _⊎_, inl, inr, ⊎-elim, _↔_, by-cases}
 use mathlib.Core.Bool.{Bool, true, false, not}
 use mathlib.Core.List.{List}
 use Prim.Native.Nat.{ℕ, _+_, _*_, _/_, _%_, _^_, _≤_, _<_}
-use native.Mathlib.Decide.{ℕ-discrete}
+use native.Mathlib.Decide.{ℕ-discrete, decLt}
 use native.Mathlib.Omega.{arith}
 use lib.ListN.{length, getD, set, length-set, replicate}
 use lib.Seq.{getD-set-same, getD-set-other}
@@ -19,9 +19,9 @@ use Rattle.chart.specs.Bodies.{countOf, actionOf, toOf, WellFormed}
 use Rattle.chart.specs.Leaving.{Begins}
 use Rattle.chart.proofs.Order.{at-mid, between}
 use Rattle.bisimulation.specs.Answers.{Related}
-use Rattle.bisimulation.specs.Suspects.{rowAt, Into, Acting, Match, MatchedIn, Clear}
+use Rattle.bisimulation.specs.Suspects.{rowAt, Into, Acting, Match, Clear}
 use Rattle.bisimulation.specs.Classes.{Classes, classAt, Leading, Alike, ClassSteps, Adds, Cuts, Stands, Spread, RowIn, RowsIn}
-use Rattle.bisimulation.specs.Classes.{Passing, PassesAt, Sifted, Apart, Stepped}
+use Rattle.bisimulation.specs.Classes.{Passing, PassesAt, Sifted, Apart, Stepped, SameStep, Joined, Suspected, Unsuspected}
 use Rattle.bisimulation.proofs.RowLaws.{related-row, related-column, has-related}
 
 -- TABLES OF WORDS: nothing at first, one word more, and the same said in another way
@@ -179,41 +179,46 @@ rows-in-more relation class c S R U d p l w t =
     (λ e. inl (S d p (omega arith) w t)))
 
 -- `passes`: the transitions from a up to i, each met by a step of `every`
-pub record Meeting (into acting body : List ℕ) (a every matched i : ℕ) : Type 0 where
+pub record Meeting (M : ℕ → ℕ → Type 0) (a every matched i : ℕ) : Type 0 where
   pub from : a ≤ i
-  pub met : (j : ℕ) → a ≤ j → j < i → (k : ℕ) × On every k × Match into acting body j k
-  pub matches : (k : ℕ) → On matched k → MatchedIn into acting body a i k
+  pub met : (j : ℕ) → a ≤ j → j < i → (k : ℕ) × On every k × M j k
+  pub matches : (k : ℕ) → On matched k → (j : ℕ) × (a ≤ j) × (j < i) × M j k
 
-pub meet-none : (into acting body : List ℕ) (a every : ℕ) → Meeting into acting body a every 0 a
-meet-none into acting body a every =
-    record { from = omega arith; met = λ j l h. absurd (omega arith); matches = λ k on. absurd (zero-off k on) }
+module _ {M : ℕ → ℕ → Type 0} {a : ℕ} where
+  pub meet-none : (every : ℕ) → Meeting M a every 0 a
+  meet-none every = record { from = omega arith; met = λ j l h. absurd (omega arith); matches = λ k on. absurd (zero-off k on) }
 
--- no transition at all, and no step
-pub meet-nothing : (into acting body : List ℕ) {a b some : ℕ} (every : ℕ) → b ≤ a → some ≡ 0 → Passing into acting body a b every some
-meet-nothing into acting body every l z = record { met = λ i f g. absurd (omega arith); matched = λ k on. absurd (zero-off k (rw z at on)) }
+  -- no transition at all, and no step
+  pub meet-nothing : {b some : ℕ} (every : ℕ) → b ≤ a → some ≡ 0 → Passing M a b every some
+  meet-nothing every l z = record { met = λ i f g. absurd (omega arith); matched = λ k on. absurd (zero-off k (rw z at on)) }
 
-module _ {into acting body : List ℕ} {a every matched i : ℕ} (S : Meeting into acting body a every matched i) where
-  pub meet-more : (x r : ℕ) → ((k : ℕ) → On x k ↔ Match into acting body i k) → (k : ℕ) × On every k × On x k
-      → ((k : ℕ) → On r k ↔ (On matched k ⊎ On x k)) → Meeting into acting body a every r (i + 1)
-  meet-more x r E (k, p, q) R = record {
+module _ {M : ℕ → ℕ → Type 0} {a every matched i : ℕ} (S : Meeting M a every matched i) where
+  -- transition i, and those after it that the same steps match
+  pub meet-run : (x r n : ℕ) → ((k : ℕ) → On x k → M i k) → (k : ℕ) × On every k × On x k
+      → ((k : ℕ) → On r k ↔ (On matched k ⊎ On x k)) → i < n → ((j k : ℕ) → i ≤ j → j < n → M i k → M j k) → Meeting M a every r n
+  meet-run x r n E (k, p, q) R l T = record {
     from = omega (arith, S .from);
-    met = λ j l h. by-cases (ℕ-discrete j i)
-        (λ e. (k, p, subst (λ (n : ℕ). Match into acting body n k) (sym e) (E k .0 q)))
-        (λ e. S .met j l (omega arith));
-    matches = λ n on. ⊎-elim
-        (λ h. let (j, f, g, M) = S .matches n h in (j, f, omega arith, M))
-        (λ h. (i, S .from, omega arith, E n .0 h))
-        (R n .0 on);
+    met = λ j f h. by-cases (decLt j i) (λ g. S .met j f g) (λ g. (k, p, T j k (omega arith) h (E k q)));
+    matches = λ y on. ⊎-elim
+        (λ h. let (j, f, g, m) = S .matches y h in (j, f, omega arith, m))
+        (λ h. (i, S .from, l, E y h))
+        (R y .0 on);
   }
 
+  -- transition i
+  pub meet-more : (x r : ℕ) → ((k : ℕ) → On x k → M i k) → (k : ℕ) × On every k × On x k
+      → ((k : ℕ) → On r k ↔ (On matched k ⊎ On x k)) → Meeting M a every r (i + 1)
+  meet-more x r E w R =
+      meet-run x r (i + 1) E w R (omega arith) (λ j k l h m. let e : i ≡ j = omega arith in subst (λ (n : ℕ). M n k) e m)
+
   pub meet-all : {b : ℕ} (some left : ℕ) → b ≤ i → i ≤ b → ((k : ℕ) → On left k ↔ (On some k × (¬ On matched k))) → left ≡ 0
-      → Passing into acting body a b every some
-  meet-all {b} some left l m D z = record {
-    met = λ j f h. S .met j f (omega arith);
+      → Passing M a b every some
+  meet-all {b} some left l h D z = record {
+    met = λ j f g. S .met j f (omega arith);
     matched = λ k on.
         by-cases (ℕ-discrete (matched / 2 ^ k % 2) 1)
-        (λ h. let (j, f, g, M) = S .matches k h in (j, f, omega arith, M))
-        (λ h. absurd (zero-off k (rw z at (D k .1 (on, h)))));
+        (λ g. let (j, f, q, m) = S .matches k g in (j, f, omega arith, m))
+        (λ g. absurd (zero-off k (rw z at (D k .1 (on, g)))));
   }
 
 -- `sift`: the vertices that are left no longer
@@ -254,6 +259,16 @@ pub apart-sets : {row related zero one end rest r : Set} → zero ≡ emptySet �
     → Intersection related one end → ((y : ℕ) → Has rest y ↔ (Has row y × (y ≢ 0))) → Union rest end r → Apart row related r
 apart-sets z O I R U = record { first = λ v h n. U v .1 (inl (R v .1 (h, n))); others = λ h. U 0 .1 (inr (I 0 .1 (h, O 0 .1 (inr refl)))) }
 
+-- `suspects`
+pub suspected : {into acting all any body begins relation : List ℕ} {related row apart r : Set} → Members (Related relation 0) row
+    → Apart row related apart → Sifted into acting all any body begins related apart r
+    → Suspected into acting all any body begins relation related r
+suspected {relation = relation} N P F = record {
+  first = λ v h n. F .given v (P .first v (has-related relation 0 N v .1 h) n);
+  end = λ h. F .given 0 (P .others h);
+  others = F .others;
+}
+
 -- WHAT THE TABLES SAY in the end
 module _ {keys words relation class leading every some into all any : List ℕ} {m rows : ℕ}
     (T : Stepped keys words m rows relation) (C : Classes relation rows class) (L : Leading keys class m leading)
@@ -279,74 +294,94 @@ module _ {keys words relation class leading every some into all any : List ℕ} 
           let (p, q) = L .exactly c k (omega (arith, T .few)) .0 on in
           (p, C .same (rowAt keys k) (T .targets k p) w l .0 (subst (λ (x : ℕ). Related relation x w) (sym q) (t .1)))
 
-  -- a step alike to one that matches a transition matches it too
-  module _ {acting body : List ℕ} (B : Bytes body) (W : WellFormed body) (A : Acting keys m acting) where
-    alike-match : (i j k : ℕ) → i < countOf body → j < m → Alike keys class j k → Match into acting body i k → Match into acting body i j
-    alike-match i j k h l E (p, q) =
-        let high = W .each i h .to-high in
-        let few = W .header .vertices-high in
-        let w : toOf body i < 128 = omega arith in
-        let (n, r) = into-all .exactly (toOf body i) k w .0 p in
-        let (n₁, b) = A .exactly (actionOf body i) k (B (4 * i + 4 + 1)) .0 q in
-        let c = C .same (rowAt keys k) (T .targets k n) (toOf body i) w .1 r in
-        let s = subst (λ (x : ℕ). Related relation x (toOf body i)) (sym (E .targets)) c in (
-          into-all .exactly (toOf body i) j w .1 (l, C .same (rowAt keys j) (T .targets j l) (toOf body i) w .0 s),
-          A .exactly (actionOf body i) j (B (4 * i + 4 + 1)) .1 (l, E .actions ∙ b),
-        )
+  -- steps alike are the same
+  same-step : (j k : ℕ) → j < m → k < m → Alike keys class j k → SameStep keys relation j k
+  same-step j k l h E = record {
+    actions = E .actions;
+    targets = λ w g.
+        let to-class = C .same (rowAt keys j) (T .targets j l) w g in
+        let from-class = C .same (rowAt keys k) (T .targets k h) w g in (
+          (λ r. from-class .0 (subst (λ (x : ℕ). Related relation x w) (E .targets) (to-class .1 r))),
+          (λ r. to-class .0 (subst (λ (x : ℕ). Related relation x w) (sym (E .targets)) (from-class .1 r))),
+        );
+  }
 
-    -- a pair of a vertex that is no suspect
-    module _ {begins : List ℕ} {row related apart r : Set} (R : Begins body begins) (G : ClassSteps keys words class rows every some)
-        (N : Members (Related relation 0) row) (K : RowsIn relation class rows related) (P : Apart row related apart)
-        (F : Sifted into acting all any body begins related apart r) where
-      end-clear : Clear into acting words body 0 0
-      end-clear = record {
-        ends = ((λ e. e), (λ e. e));
-        forth = λ k on. absurd (T .end k on);
-        back = λ i h e. absurd (omega (arith, W .each i h .from-low));
+  pub all-joined : {related : Set} → ClassSteps keys words class rows every some → RowsIn relation class rows related
+      → Joined keys words m relation all any related
+  all-joined {related} G K = record {
+    given = λ u v n r. let l = low u v r in K (getD class u 0) (not-first u l n) (class-low u l) v (stands u v l r);
+    common = λ u v k n r h on.
+        let l = low u v r in
+        let shared = S .common v k (getD class u 0) (related-column relation u v r) (class-low u l) (stands u v l r) on in
+        let (j, o, z) = G .all u (positive u n) l .each k shared in
+        (j, o, same-step j k (T .coded .known u j o) h z);
+    steps = λ u v k n r on.
+        let l = low u v r in
+        S .joined v k (getD class u 0) (related-column relation u v r) (class-low u l) (stands u v l r) (G .any u k (positive u n) l on);
+  }
+    where
+      low : (u v : ℕ) → Related relation u v → u < rows
+      low u v = related-row relation rows u v (T .whole)
+
+      positive : (x : ℕ) → x ≢ 0 → 0 < x
+      positive x n = omega arith
+
+      not-first : (u : ℕ) → u < rows → u ≢ 0 → 0 < getD class u 0
+      not-first u l d = by-cases (ℕ-discrete (getD class u 0) 0) (λ z. absurd (d (C .first u l z))) (λ z. omega arith)
+
+-- a step that is the same as one that matches a transition matches it too
+same-matches : {relation keys into acting body : List ℕ} {m : ℕ} → Into relation keys m into → Acting keys m acting
+    → Bytes body → WellFormed body → (i j k : ℕ) → i < countOf body → j < m → SameStep keys relation j k
+    → Match into acting body i k → Match into acting body i j
+same-matches {body = body} I A B W i j k h l E (p, q) =
+    let high = W .each i h .to-high in
+    let few = W .header .vertices-high in
+    let w : toOf body i < 128 = omega arith in
+    let a = B (4 * i + 4 + 1) in (
+      I .exactly (toOf body i) j w .1 (l, E .targets (toOf body i) w .1 (I .exactly (toOf body i) k w .0 p .1)),
+      A .exactly (actionOf body i) j a .1 (l, E .actions ∙ A .exactly (actionOf body i) k a .0 q .1),
+    )
+
+-- a pair of a vertex that is no suspect passes
+module _ {keys words relation into acting all any body begins : List ℕ} {m rows : ℕ} {related r : Set}
+    (T : Stepped keys words m rows relation) (I : Into relation keys m into) (A : Acting keys m acting)
+    (J : Joined keys words m relation all any related) (B : Bytes body) (W : WellFormed body) (R : Begins body begins)
+    (F : Suspected into acting all any body begins relation related r) where
+  end-clear : Clear into acting words body 0 0
+  end-clear = record {
+    ends = ((λ e. e), (λ e. e));
+    forth = λ k on. absurd (T .end k on);
+    back = λ i h e. absurd (omega (arith, W .each i h .from-low));
+  }
+
+  passing-clear : (u v : ℕ) → u ≢ 0 → v ≢ 0 → Related relation u v → PassesAt into acting all any body begins v
+      → Clear into acting words body u v
+  passing-clear u v n z r Q =
+      let low = related-column relation u v r in
+      let begin = R .split v (omega arith) in
+      let end = R .split (v + 1) (omega arith) in
+      record {
+        ends = ((λ e. absurd (n e)), (λ e. absurd (z e)));
+        forth = λ k on.
+            let (i, f, g, M) = Q .matched k (J .steps u v k n r on) in
+            (i, omega (arith, end .within), at-mid begin end i f g, M);
+        back = λ i h e.
+            let (f, g) = between begin end i h e in
+            let (k, on, M) = Q .met i f g in
+            let a = B (4 * i + 4 + 1) in
+            let (j, o, s) = J .common u v k n r (A .exactly (actionOf body i) k a .0 (M .1) .0) on in
+            (j, o, same-matches I A B W i j k h (T .coded .known u j o) s M);
       }
 
-      passing-clear : (u v : ℕ) → u < rows → u ≢ 0 → v ≢ 0 → Related relation u v
-          → PassesAt into acting all any body begins v
-          → Clear into acting words body u v
-      passing-clear u v l n m r Q =
-          let low = related-column relation u v r in
-          let t = stands u v l r in
-          let pos : 0 < u = positive u n in
-          let begin = R .split v (omega arith) in
-          let end = R .split (v + 1) (omega arith) in
-          record {
-            ends = ((λ e. absurd (n e)), (λ e. absurd (m e)));
-            forth = λ k on.
-                let (i, f, g, M) = Q .matched k (S .joined v k (getD class u 0) low (class-low u l) t (G .any u k pos l on)) in
-                (i, omega (arith, end .within), at-mid begin end i f g, M);
-            back = λ i h e.
-                let (f, g) = between begin end i h e in
-                let (k, on, M) = Q .met i f g in
-                let (j, o, z) = G .all u pos l .each k (S .common v k (getD class u 0) low (class-low u l) t on) in
-                (j, o, alike-match i j k h (T .coded .known u j o) z M);
-          }
-        where
-          positive : (x : ℕ) → x ≢ 0 → 0 < x
-          positive x n = omega arith
+  pub pair-clear : Unsuspected into acting words body relation r
+  pair-clear u v h n = by-cases (ℕ-discrete u 0) zero other
+    where
+      zero : u ≡ 0 → Clear into acting words body u v
+      zero e = by-cases (ℕ-discrete v 0)
+          (λ f. rw (e, f) end-clear)
+          (λ f. absurd (n (F .first v (subst (λ (x : ℕ). Related relation x v) e h) f)))
 
-      pub pair-clear : (u v : ℕ) → Related relation u v → ¬ Has r v → Clear into acting words body u v
-      pair-clear u v h n = by-cases (ℕ-discrete u 0) zero other
-        where
-          l : u < rows
-          l = related-row relation rows u v (T .whole) h
-
-          zero : u ≡ 0 → Clear into acting words body u v
-          zero e = by-cases (ℕ-discrete v 0)
-              (λ f. rw (e, f) end-clear)
-              (λ f. absurd (n (F .given v (P .first v (has-related relation 0 N v .1 (subst (λ (x : ℕ). Related relation x v) e h)) f))))
-
-          not-first : u ≢ 0 → 0 < getD class u 0
-          not-first d = by-cases (ℕ-discrete (getD class u 0) 0) (λ z. absurd (d (C .first u l z))) (λ z. omega arith)
-
-          in-related : u ≢ 0 → Has related v
-          in-related d = K (getD class u 0) (not-first d) (class-low u l) v (stands u v l h)
-
-          other : u ≢ 0 → Clear into acting words body u v
-          other d = by-cases (ℕ-discrete v 0)
-              (λ f. absurd (n (F .given v (subst (Has apart) (sym f) (P .others (subst (Has related) f (in-related d)))))))
-              (λ f. passing-clear u v l d f h (F .others v (in-related d) n))
+      other : u ≢ 0 → Clear into acting words body u v
+      other d = by-cases (ℕ-discrete v 0)
+          (λ f. absurd (n (subst (Has r) (sym f) (F .end (subst (Has related) f (J .given u v d h))))))
+          (λ f. passing-clear u v d f h (F .others v (J .given u v d h) n))

@@ -10,7 +10,7 @@ use Rattle.bits.specs.Words.{On}
 use Rattle.bits.specs.Sets.{Has}
 use Rattle.chart.specs.Numbered.{Coded}
 use Rattle.bisimulation.specs.Answers.{Related}
-use Rattle.bisimulation.specs.Suspects.{SameRow, rowAt, Sorted, Match, MatchedIn, Clear}
+use Rattle.bisimulation.specs.Suspects.{SameRow, rowAt, Sorted, Match, Clear}
 
 -- CLASSES
 -- the class of a row: a row up to it, which is its own class, with the same vertices; only row 0 has class 0
@@ -99,15 +99,19 @@ abbrev pub RowsIn : (relation class : List ℕ) → ℕ → Set → Type 0
 RowsIn relation class n r = (c : ℕ) → 0 < c → c < n → RowIn relation class c r
 
 -- THE SUSPECTS
--- a step of `every` matches each of the transitions from a up to b, and each step of `some` matches one of them
-pub record Passing (into acting body : List ℕ) (a b every some : ℕ) : Type 0 where
-  pub met : (i : ℕ) → a ≤ i → i < b → (k : ℕ) × On every k × Match into acting body i k
-  pub matched : (k : ℕ) → On some k → MatchedIn into acting body a b k
+-- by M, a step of `every` matches each of the transitions from a up to b, and each step of `some` matches one of them
+pub record Passing (M : ℕ → ℕ → Type 0) (a b every some : ℕ) : Type 0 where
+  pub met : (i : ℕ) → a ≤ i → i < b → (k : ℕ) × On every k × M i k
+  pub matched : (k : ℕ) → On some k → (i : ℕ) × (a ≤ i) × (i < b) × M i k
+
+-- this by the tables
+abbrev pub TablesPass : (into acting body : List ℕ) → (a b every some : ℕ) → Type 0
+TablesPass into acting body = Passing (λ (i k : ℕ). Match into acting body i k)
 
 -- this of all transitions of vertex v, by its words in the tables
 abbrev pub PassesAt : (into acting all any body begins : List ℕ) → ℕ → Type 0
 PassesAt into acting all any body begins v =
-    Passing into acting body (getD begins v 0) (getD begins (v + 1) 0) (getD all v 0) (getD any v 0)
+    TablesPass into acting body (getD begins v 0) (getD begins (v + 1) 0) (getD all v 0) (getD any v 0)
 
 -- of the set `related`, the vertices outside r pass, and r has those of the set `apart`
 pub record Sifted (into acting all any body begins : List ℕ) (related apart r : Set) : Type 0 where
@@ -127,6 +131,25 @@ pub record Stepped (keys words : List ℕ) (m rows : ℕ) (relation : List ℕ) 
   pub whole : length relation ≡ 16 * rows
   pub few : rows ≤ 128
   pub some : 0 < rows
+
+-- steps with the same action, whose targets have the same row
+pub record SameStep (keys relation : List ℕ) (j k : ℕ) : Type 0 where
+  pub actions : getD keys j 0 / 256 ≡ getD keys k 0 / 256
+  pub targets : SameRow relation (rowAt keys j) (rowAt keys k)
+
+-- of a row but 0 and a vertex v that it is related to: v is in the set, each of the m steps that is in the word `all`
+-- of v is the same as one of the row, and the steps of the row are in the word `any` of v
+pub record Joined (keys words : List ℕ) (m : ℕ) (relation all any : List ℕ) (related : Set) : Type 0 where
+  pub given : (u v : ℕ) → u ≢ 0 → Related relation u v → Has related v
+  pub common : (u v k : ℕ) → u ≢ 0 → Related relation u v → k < m → On (getD all v 0) k
+      → (j : ℕ) × On (getD words u 0) j × SameStep keys relation j k
+  pub steps : (u v k : ℕ) → u ≢ 0 → Related relation u v → On (getD words u 0) k → On (getD any v 0) k
+
+-- of the set `related`, the vertices outside r pass; r has those where 43 fails
+pub record Suspected (into acting all any body begins relation : List ℕ) (related r : Set) : Type 0 where
+  pub first : (v : ℕ) → Related relation 0 v → v ≢ 0 → Has r v
+  pub end : Has related 0 → Has r 0
+  pub others : (v : ℕ) → Has related v → ¬ Has r v → PassesAt into acting all any body begins v
 
 -- each related pair of a vertex outside the set passes by the tables
 abbrev pub Unsuspected : (into acting words body relation : List ℕ) → Set → Type 0

@@ -1,4 +1,5 @@
 // 43 to 45 by the tables: which rows pass with a chart vertex, all rows of its column at once.
+use super::runs::past_alike;
 use bits::Set;
 use bits::bit_and;
 use bits::bit_and_not;
@@ -17,6 +18,7 @@ ghost use Rattle.bits.specs.Tables.{InSome};
 ghost use Rattle.chart.specs.Bodies.{verticesOf, countOf};
 ghost use Rattle.chart.specs.Leaving.{Begins};
 ghost use Rattle.bisimulation.specs.Suspects.{Tabled, Match, Knows, Walked, SameEnd, Refusable, Gathered};
+ghost use Rattle.bisimulation.specs.Runs.{Runs, OneSource};
 
 // Steps, and the rows with one of them.
 pub struct Latest {
@@ -59,11 +61,12 @@ fn rows_with(users: &[u64; 128], known: Latest, steps: u64) -> Set
 }
 
 // Of the transitions from a to b, the steps that match one of them, and the rows of the set that have a step for each
-// of them. Neighbours often have the same steps, and then nothing changes.
+// of them. Neighbours often have the same steps, and then nothing changes; those of a run are passed over.
 fn walk(
     into: &[u64; 128],
     acting: &[u64; 256],
     users: &[u64; 128],
+    until: &[u8; 128],
     body: &[u8],
     a: usize,
     b: usize,
@@ -74,6 +77,8 @@ fn walk(
         × (length (now users) ≡ 128)
         × (a ≤ b)
         × (b ≤ countOf (now body))
+        × Runs (now into) (now until)
+        × OneSource (now body) a b
         × Knows (now users) known ⌝ }
     ensures { λ r. ⌜ Walked (now (into .entry)) (now (acting .entry)) (now (users .entry)) (now (body .entry))
         a b set r × Knows (now (users .entry)) (r .known) ⌝ }
@@ -90,7 +95,7 @@ fn walk(
     let mut matched = first;
     let mut last = first;
     let mut able = set.intersection(rows);
-    let mut i = a + 1;
+    let mut i = past_alike(until, body, a, b);
     while i < b {
         let next = matching(into, acting, body, i);
         if next != last {
@@ -99,7 +104,7 @@ fn walk(
             matched = bit_or(matched, next);
             last = next;
         }
-        i += 1;
+        i = past_alike(until, body, i, b);
     }
     let latest = Latest { steps: last, rows };
     Matches {
@@ -125,6 +130,7 @@ fn refusable(
     acting: &[u64; 256],
     users: &[u64; 128],
     used: u64,
+    until: &[u8; 128],
     body: &[u8],
     begins: &[usize; 129],
     v: usize,
@@ -133,6 +139,7 @@ fn refusable(
 ) -> Refusals
     requires { ⌜ Tabled (now into) (now acting) (now body)
         × (length (now users) ≡ 128)
+        × Runs (now into) (now until)
         × Begins (now body) (now begins)
         × (v < 128)
         × Knows (now users) known ⌝ }
@@ -146,6 +153,7 @@ fn refusable(
         into,
         acting,
         users,
+        until,
         body,
         begins[v],
         begins[v + 1],
@@ -170,11 +178,13 @@ pub(crate) fn gather(
     acting: &[u64; 256],
     users: &[u64; 128],
     used: u64,
+    until: &[u8; 128],
     body: &[u8],
     begins: &[usize; 129],
 ) -> [u64; 256]
     requires { ⌜ Tabled (now into) (now acting) (now body)
         × (length (now users) ≡ 128)
+        × Runs (now into) (now until)
         × Begins (now body) (now begins)
         × (length (now columns) ≡ 256) ⌝ }
     ensures { λ r. ⌜ Gathered (now (columns .entry)) (now (into .entry)) (now (acting .entry)) (now (users .entry)) used
@@ -193,6 +203,7 @@ pub(crate) fn gather(
             acting,
             users,
             used,
+            until,
             body,
             begins,
             v,

@@ -4,6 +4,8 @@ mod clearing;
 mod pairs;
 mod places;
 mod rows;
+mod runs;
+mod small;
 mod suspects;
 mod tables;
 
@@ -14,6 +16,9 @@ use pairs::search;
 use report::Place;
 use report::Stage;
 use rows::read_row;
+use runs::runs;
+use small::small_passes;
+use suspects::fill_tables;
 use suspects::suspects;
 use tables::columns;
 use tables::used;
@@ -63,8 +68,7 @@ pub fn opening(vertices: usize, start: usize, body: &[u8], relation: &[u8]) -> S
 }
 
 // 43 to 45, where 40 to 42 pass: of all rows of a vertex at once, and where that does not do, of its rows one by one.
-// The expression's chart is given by the numbers of its steps: it is not written.
-pub fn check_pairs(
+fn check_by_tables(
     keys: &[usize; 128],
     words: &[u64; 128],
     m: usize,
@@ -81,16 +85,30 @@ pub fn check_pairs(
 {
     let mut into = [0u64; 128];
     let mut acting = [0u64; 256];
-    let suspects = suspects(
+    let mut all = [18446744073709551615u64; 128];
+    let mut any = [0u64; 128];
+    let related = fill_tables(
         keys,
         words,
         m,
         vertices,
-        body,
-        begins,
         relation,
         &mut into,
         &mut acting,
+        &mut all,
+        &mut any,
+    );
+    let until = runs(&into, body);
+    let suspects = suspects(
+        &into,
+        &acting,
+        &all,
+        &any,
+        &until,
+        body,
+        begins,
+        relation,
+        related,
     );
     if suspects.is_empty() {
         return Stage::Passed;
@@ -98,6 +116,28 @@ pub fn check_pairs(
     let columns = columns(relation, vertices, suspects);
     let users = users(words, vertices);
     let used = used(words, vertices);
-    let table = gather(&columns, &into, &acting, &users, used, body, begins);
+    let table = gather(&columns, &into, &acting, &users, used, &until, body, begins);
     search(&into, &acting, words, &table, body, begins, vertices)
+}
+
+// 43 to 45, where 40 to 42 pass. The expression's chart is given by the numbers of its steps: it is not written.
+pub fn check_pairs(
+    keys: &[usize; 128],
+    words: &[u64; 128],
+    m: usize,
+    vertices: usize,
+    body: &[u8],
+    begins: &[usize; 129],
+    relation: &[u8],
+) -> Stage
+    requires { ⌜ (checkOf (now body) ≡ Stage.Passed)
+        × Begins (now body) (now begins)
+        × SomeChart (now keys) (now words) m vertices (now body) (now relation) ⌝ }
+    ensures { λ r. ⌜ PairsAnswer (now (keys .entry)) (now (words .entry)) m vertices
+        (now (body .entry)) (now (relation .entry)) r ⌝ }
+{
+    if small_passes(keys, words, vertices, body, begins, relation) {
+        return Stage::Passed;
+    }
+    check_by_tables(keys, words, m, vertices, body, begins, relation)
 }

@@ -4,6 +4,8 @@ use super::classes::join_rows;
 use super::classes::tabulate;
 use super::clearing::matching;
 use super::rows::read_row;
+use super::runs::past_alike;
+use super::runs::worth_runs;
 use bits::Set;
 use bits::bit_and;
 use bits::bit_and_not;
@@ -12,13 +14,14 @@ use bits::meets;
 ghost use mathlib.Core.Path.{_≡_};
 ghost use mathlib.Core.Bool.{true};
 ghost use Prim.Native.Nat.{_+_, _*_, _≤_, _<_};
-ghost use lib.ListN.{length};
+ghost use lib.ListN.{length, getD};
 ghost use Rattle.bits.specs.Sets.{Has};
-ghost use Rattle.chart.specs.Bodies.{countOf, WellFormed};
+ghost use Rattle.chart.specs.Bodies.{countOf};
 ghost use Rattle.chart.specs.Leaving.{Begins};
 ghost use Rattle.bisimulation.specs.Suspects.{Acting, Into, Tabled};
-ghost use Rattle.bisimulation.specs.Classes.{ClassTables, Adds, Cuts, Spread, RowIn, RowsIn, Passing, Sifted};
-ghost use Rattle.bisimulation.specs.Classes.{Apart, Stepped, Unsuspected};
+ghost use Rattle.bisimulation.specs.Classes.{ClassTables, Adds, Cuts, Spread, RowIn, RowsIn, TablesPass, Sifted};
+ghost use Rattle.bisimulation.specs.Classes.{Apart, Stepped, Joined, Suspected};
+ghost use Rattle.bisimulation.specs.Runs.{Runs, OneSource};
 
 // Puts words into the tables at each of the vertices: one more in common, and two joined.
 fn spread_steps(
@@ -118,7 +121,7 @@ fn passes(
     some: u64,
 ) -> bool
     requires { ⌜ Tabled (now into) (now acting) (now body) × (a ≤ b) × (b ≤ countOf (now body)) ⌝ }
-    ensures { λ r. ⌜ (r ≡ true → Passing (now (into .entry)) (now (acting .entry)) (now (body .entry))
+    ensures { λ r. ⌜ (r ≡ true → TablesPass (now (into .entry)) (now (acting .entry)) (now (body .entry))
         a b every some) ⌝ }
 {
     if a >= b {
@@ -149,18 +152,79 @@ fn passes(
     bit_and_not(some, matched) == 0
 }
 
+// The same, where many of the transitions leave one vertex by one action: those that the same steps match are passed
+// over together.
+fn passes_by_runs(
+    into: &[u64; 128],
+    acting: &[u64; 256],
+    until: &[u8; 128],
+    body: &[u8],
+    a: usize,
+    b: usize,
+    every: u64,
+    some: u64,
+) -> bool
+    requires { ⌜ Tabled (now into) (now acting) (now body)
+        × Runs (now into) (now until)
+        × (a ≤ b)
+        × (b ≤ countOf (now body))
+        × OneSource (now body) a b ⌝ }
+    ensures { λ r. ⌜ (r ≡ true → TablesPass (now (into .entry)) (now (acting .entry)) (now (body .entry))
+        a b every some) ⌝ }
+{
+    let mut matched: u64 = 0;
+    let mut i = a;
+    while i < b {
+        let x = matching(into, acting, body, i);
+        if !meets(every, x) {
+            return false;
+        }
+        matched = bit_or(matched, x);
+        i = past_alike(until, body, i, b);
+    }
+    bit_and_not(some, matched) == 0
+}
+
+// The same of the transitions of v.
+fn vertex_passes(
+    into: &[u64; 128],
+    acting: &[u64; 256],
+    until: &[u8; 128],
+    body: &[u8],
+    begins: &[usize; 129],
+    v: usize,
+    every: u64,
+    some: u64,
+) -> bool
+    requires { ⌜ Tabled (now into) (now acting) (now body)
+        × Runs (now into) (now until)
+        × Begins (now body) (now begins)
+        × (v < 128) ⌝ }
+    ensures { λ r. ⌜ (r ≡ true → TablesPass (now (into .entry)) (now (acting .entry)) (now (body .entry))
+        (getD (now (begins .entry)) v 0) (getD (now (begins .entry)) (v + 1) 0) every some) ⌝ }
+{
+    let a = begins[v];
+    let b = begins[v + 1];
+    if worth_runs(until, body, a, b) {
+        return passes_by_runs(into, acting, until, body, a, b, every, some);
+    }
+    passes(into, acting, body, a, b, every, some)
+}
+
 // The vertices of one set, and those of another that do not pass.
 fn sift(
     into: &[u64; 128],
     acting: &[u64; 256],
     all: &[u64; 128],
     any: &[u64; 128],
+    until: &[u8; 128],
     body: &[u8],
     begins: &[usize; 129],
     related: Set,
     apart: Set,
 ) -> Set
     requires { ⌜ Tabled (now into) (now acting) (now body)
+        × Runs (now into) (now until)
         × Begins (now body) (now begins)
         × (length (now all) ≡ 128)
         × (length (now any) ≡ 128) ⌝ }
@@ -171,7 +235,7 @@ fn sift(
     let mut left = related;
     let mut v = left.lowest();
     while v < 128 {
-        let passed = passes(into, acting, body, begins[v], begins[v + 1], all[v], any[v]);
+        let passed = vertex_passes(into, acting, until, body, begins, v, all[v], any[v]);
         found = found.with_if(v, !passed);
         left = left.without_lowest();
         v = left.lowest();
@@ -187,28 +251,30 @@ fn apart(row: Set, related: Set) -> Set
     row.without(0).union(end)
 }
 
-// The vertices that 43, 44 or 45 may refuse with some row; and two tables: for each vertex the steps whose target is
-// related to it, and for each action the steps with it.
-pub(crate) fn suspects(
+// The tables: for each vertex the steps whose target is related to it, steps that its rows have in common, and the
+// steps of all its rows; for each action the steps with it. Returns what the rows but row 0 are related to.
+pub(crate) fn fill_tables(
     keys: &[usize; 128],
     words: &[u64; 128],
     m: usize,
     rows: usize,
-    body: &[u8],
-    begins: &[usize; 129],
     relation: &[u8],
     into: &mut [u64; 128],
     acting: &mut [u64; 256],
+    all: &mut [u64; 128],
+    any: &mut [u64; 128],
 ) -> Set
     requires { ⌜ Stepped (now keys) (now words) m rows (now relation)
-        × Begins (now body) (now begins)
-        × WellFormed (now body)
         × Into (now relation) (now keys) 0 (now into)
-        × Acting (now keys) 0 (now acting) ⌝ }
+        × Acting (now keys) 0 (now acting)
+        × (length (now all) ≡ 128)
+        × (length (now any) ≡ 128) ⌝ }
     ensures { λ r. ⌜ Into (now (relation .entry)) (now (keys .entry)) m (now (into .exit))
         × Acting (now (keys .entry)) m (now (acting .exit))
-        × Unsuspected (now (into .exit)) (now (acting .exit)) (now (words .entry)) (now (body .entry))
-        (now (relation .entry)) r ⌝ }
+        × (length (now (all .exit)) ≡ 128)
+        × (length (now (any .exit)) ≡ 128)
+        × Joined (now (keys .entry)) (now (words .entry)) m (now (relation .entry))
+        (now (all .exit)) (now (any .exit)) r ⌝ }
 {
     let mut class = [0u8; 128];
     classes(relation, rows, &mut class);
@@ -228,9 +294,7 @@ pub(crate) fn suspects(
         &mut every,
         &mut some,
     );
-    let mut all = [18446744073709551615u64; 128];
-    let mut any = [0u64; 128];
-    let related = spread_classes(
+    spread_classes(
         relation,
         rows,
         &class,
@@ -238,9 +302,32 @@ pub(crate) fn suspects(
         &every,
         &some,
         into,
-        &mut all,
-        &mut any,
-    );
+        all,
+        any,
+    )
+}
+
+// The vertices that 43, 44 or 45 may refuse with some row, by the tables.
+pub(crate) fn suspects(
+    into: &[u64; 128],
+    acting: &[u64; 256],
+    all: &[u64; 128],
+    any: &[u64; 128],
+    until: &[u8; 128],
+    body: &[u8],
+    begins: &[usize; 129],
+    relation: &[u8],
+    related: Set,
+) -> Set
+    requires { ⌜ Tabled (now into) (now acting) (now body)
+        × Runs (now into) (now until)
+        × Begins (now body) (now begins)
+        × (length (now all) ≡ 128)
+        × (length (now any) ≡ 128)
+        × (16 ≤ length (now relation)) ⌝ }
+    ensures { λ r. ⌜ Suspected (now (into .entry)) (now (acting .entry)) (now (all .entry)) (now (any .entry))
+        (now (body .entry)) (now (begins .entry)) (now (relation .entry)) related r ⌝ }
+{
     let apart = apart(read_row(relation, 0), related);
-    sift(into, acting, &all, &any, body, begins, related, apart)
+    sift(into, acting, all, any, until, body, begins, related, apart)
 }

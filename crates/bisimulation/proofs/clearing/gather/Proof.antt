@@ -4,6 +4,7 @@ use lib.ListN.{length}
 use Rattle.chart.specs.Bodies.{verticesOf}
 use Rattle.chart.specs.Leaving.{Begins}
 use Rattle.bisimulation.specs.Suspects.{Tabled, Knows, Gathered}
+use Rattle.bisimulation.specs.Runs.{Runs}
 use Rattle.bisimulation.proofs.ClearLaws.{knows-none, gather-none, gather-more}
 use borrow.Author.Needs.{needs}
 use native.Mathlib.Omega.{arith}
@@ -11,12 +12,12 @@ use Rattle.bisimulation.proofs.clearing.gather.Statement.{statement}
 use Rattle.bisimulation.proofs.clearing.gather.Tie as tie
 
 abbrev Inv-loop : tie.InvT-loop
-Inv-loop columns into acting users used body begins n known₀ table₀ v₀ known table v =
+Inv-loop columns into acting users used until body begins n known₀ table₀ v₀ known table v =
     Tabled into acting body × (length users ≡ 128) × Begins body begins × (length columns ≡ 256) × (n ≡ verticesOf body) × (v ≤ n)
-    × Knows users known × Gathered columns into acting users used body v table
+    × Knows users known × Gathered columns into acting users used body v table × Runs into until
 
 abbrev μ-loop : tie.MeasureT-loop
-μ-loop columns into acting users used body begins n known₀ table₀ v₀ known table v = n - v
+μ-loop columns into acting users used until body begins n known₀ table₀ v₀ known table v = n - v
 
 byte-requires : tie.Need-byte-requires Inv-loop μ-loop
 byte-requires c κs = let l = c .before .pre .0 .formed .header .long in omega arith
@@ -27,7 +28,7 @@ empty-requires c κs = search needs
 loop-holds : tie.Need-loop-holds Inv-loop μ-loop
 loop-holds c =
     let p = c .before .before .before .pre in
-    (p .0, p .1, p .2, p .3, c .before .byte .ensures .0, omega arith, knows-none _ (c .empty .ensures), gather-none _ _ _ _ _ _)
+    (p .0, p .1, p .3, p .4, c .before .byte .ensures .0, omega arith, knows-none _ (c .empty .ensures), gather-none _ _ _ _ _ _, p .2)
 
 row-requires : tie.Need-row-requires Inv-loop μ-loop
 row-requires c κs =
@@ -40,7 +41,7 @@ refusable-requires c κs =
     let d = c .before .before in
     let i = d .before .loop .inv in
     let h = i .0 .formed .header .vertices-high in
-    (i .0, i .1, i .2, omega (arith, i .4, h, d .loop-test .taken), i .6)
+    (i .0, i .1, i .8, i .2, omega (arith, i .4, h, d .loop-test .taken), i .6)
 
 slice-aggregate-put-row : tie.Need-slice-aggregate-put-row Inv-loop μ-loop
 slice-aggregate-put-row c = search needs
@@ -71,6 +72,7 @@ loop-again c =
       R .1,
       gather-more (i .7) (omega (arith, i .4, h, d .before .before .before .loop-test .taken)) (d .before .row .ensures) (R .0)
           (c .before .put-row .ensures),
+      i .8,
     )
 
 returns : tie.Need-returns Inv-loop μ-loop

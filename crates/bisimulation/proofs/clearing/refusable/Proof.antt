@@ -1,4 +1,5 @@
 use Rattle.chart.proofs.Order.{begin-order, begin-high}
+use Rattle.bisimulation.proofs.RunLaws.{one-source}
 use Rattle.bisimulation.proofs.ClearLaws.{refuse-none, refuse-some}
 use borrow.Author.Needs.{needs}
 use Rattle.bisimulation.proofs.clearing.refusable.Statement.{statement}
@@ -8,7 +9,7 @@ is-empty-requires : tie.Need-is-empty-requires
 is-empty-requires c κs = search needs
 
 returns : tie.Need-returns
-returns c = (refuse-none _ _ _ _ _ _ (c .before .is-empty .ensures .0 (c .if1 .taken)), c .before .before .before .pre .4)
+returns c = (refuse-none _ _ _ _ _ _ (c .before .is-empty .ensures .0 (c .if1 .taken)), c .before .before .before .pre .5)
 
 mul-walk : tie.Need-mul-walk
 mul-walk c = search needs
@@ -32,7 +33,9 @@ walk-requires : tie.Need-walk-requires
 walk-requires c κs =
     let k = c .before .before .before .before .before .before in
     let p = k .pre in
-    (p .0, p .1, begin-order (p .2) (k .args .v) (p .3), begin-high (p .2) (k .args .v) (p .3), p .4)
+    let v = k .args .v in
+    let l = p .4 in
+    (p .0, p .1, begin-order (p .3) v l, begin-high (p .3) v l, p .2, one-source (p .3) v l, p .5)
 
 bit-and-not-requires : tie.Need-bit-and-not-requires
 bit-and-not-requires c κs = search needs
@@ -51,7 +54,8 @@ returns-2 c =
     let d = c .before .before .before .before .before .before .before in
     let p = d .before .before .before .before .before .before .before .pre in
     let W = d .walk .ensures in (
-      refuse-some (p .2) (p .3) (d .before .same-ends .ensures) (W .0) _ (c .before .before .before .bit-and-not .ensures) (c .before .before .united .ensures) (c .before .difference .ensures) (c .difference2 .ensures),
+      refuse-some (p .3) (p .4) (d .before .same-ends .ensures) (W .0) _ (c .before .before .before .bit-and-not .ensures)
+          (c .before .before .united .ensures) (c .before .difference .ensures) (c .difference2 .ensures),
       W .1,
     )
 

@@ -1,9 +1,9 @@
 use mathlib.Core.Path.{_≡_}
 use mathlib.Core.Bool.{false≢true}
-use Prim.Native.Nat.{_+_, _-_, _≤_}
+use Prim.Native.Nat.{ℕ, _+_, _-_, _≤_}
 use borrow.Author.Tests.{eqb-true, not-false}
 use Rattle.chart.specs.Bodies.{countOf}
-use Rattle.bisimulation.specs.Suspects.{Tabled}
+use Rattle.bisimulation.specs.Suspects.{Tabled, Match}
 use Rattle.bisimulation.proofs.SuspectLaws.{Meeting, meet-none, meet-more, meet-all, meet-nothing}
 use borrow.Author.Needs.{needs}
 use native.Mathlib.Omega.{arith}
@@ -12,19 +12,20 @@ use Rattle.bisimulation.proofs.suspects.passes.Tie as tie
 
 abbrev Inv-loop : tie.InvT-loop
 Inv-loop into acting body a b every some last matched₀ i₀ matched i =
-    Tabled into acting body × (b ≤ countOf body) × (last + 1 ≡ b) × (i ≤ b) × Meeting into acting body a every matched i
+    Tabled into acting body × (b ≤ countOf body) × (last + 1 ≡ b) × (i ≤ b)
+    × Meeting (λ (j k : ℕ). Match into acting body j k) a every matched i
 
 abbrev μ-loop : tie.MeasureT-loop
 μ-loop into acting body a b every some last matched₀ i₀ matched i = b - i
 
 returns : tie.Need-returns Inv-loop μ-loop
-returns c = λ h. meet-nothing _ _ _ _ (c .if1 .taken) (eqb-true _ _ h)
+returns c = λ h. meet-nothing _ (c .if1 .taken) (eqb-true _ _ h)
 
 sub-last : tie.Need-sub-last Inv-loop μ-loop
 sub-last c = search needs
 
 loop-holds : tie.Need-loop-holds Inv-loop μ-loop
-loop-holds c = let p = c .before .before .pre in (p .0, p .2, omega arith, p .1, meet-none _ _ _ _ _)
+loop-holds c = let p = c .before .before .pre in (p .0, p .2, omega arith, p .1, meet-none _)
 
 matching-requires : tie.Need-matching-requires Inv-loop μ-loop
 matching-requires c κs = let i = c .before .loop .inv in (i .0, omega (arith, i .1, i .2))
@@ -68,18 +69,19 @@ loop-less c =
 loop-again : tie.Need-loop-again Inv-loop μ-loop
 loop-again c =
     let d = c .before .before .before .before in
-    let i = d .before .before .before .before .before .loop .inv in
-    let S = meet-more (i .4) (d .before .before .before .matching .result) (c .before .bit-or .result)
-    (d .before .before .before .matching .ensures) (d .before .before .meets .ensures .0 (not-false _ (d .before .if2 .left)))
-    (c .before .bit-or .ensures) in
-    let e : d .before .before .before .before .before .loop .i + 1 + 1 ≡ d .before .before .before .before .before .loop .i + 2 = omega
-    arith in (
+    let l = d .before .before .before .before .before in
+    let i = l .loop .inv in
+    let x = d .before .before .before .matching in
+    let y = d .matching2 in
+    let f = d .before .before .meets .ensures .0 (not-false _ (d .before .if2 .left)) in
+    let g = c .before .before .before .meets2 .ensures .0 (not-false _ (c .before .before .if3 .left)) in
+    let S = meet-more (i .4) (x .result) (c .before .bit-or .result) (λ k on. x .ensures k .0 on) f (c .before .bit-or .ensures) in
+    let e : l .loop .i + 1 + 1 ≡ l .loop .i + 2 = omega arith in (
       i .0,
       i .1,
       i .2,
       omega (arith, i .2, d .before .before .before .before .loop-test .taken),
-      rw e at
-          (meet-more S (d .matching2 .result) (c .bit-or2 .result) (d .matching2 .ensures) (c .before .before .before .meets2 .ensures .0 (not-false _ (c .before .before .if3 .left))) (c .bit-or2 .ensures)),
+      rw e at (meet-more S (y .result) (c .bit-or2 .result) (λ k on. y .ensures k .0 on) g (c .bit-or2 .ensures)),
     )
 
 matching-requires-3 : tie.Need-matching-requires-3 Inv-loop μ-loop
@@ -102,7 +104,7 @@ returns-5 c =
     let d = c .before .before .before .before in
     λ h.
     let i = d .before .before .before .loop .inv in
-    let S = meet-more (i .4) (d .matching3 .result) (c .before .bit-or3 .result) (d .matching3 .ensures)
+    let S = meet-more (i .4) (d .matching3 .result) (c .before .bit-or3 .result) (λ k on. d .matching3 .ensures k .0 on)
     (c .before .before .before .meets3 .ensures .0 (not-false _ (c .before .before .if5 .left))) (c .before .bit-or3 .ensures) in
     meet-all S _ (c .bit-and-not .result) (omega (arith, i .2, d .before .before .loop-test .left))
     (omega (arith, d .before .if4 .taken)) (c .bit-and-not .ensures) (eqb-true _ _ h)
