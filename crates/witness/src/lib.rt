@@ -62,7 +62,7 @@ fn check_by(
     }
 }
 
-// The same with tables for 32 vertices and the levels below 32: what is cleared is most of the work on a small file.
+// The same with tables for 32 vertices and the levels below 32: to clear large ones is much of a small file's work.
 fn check_small(body: &[u8], labels: &[u8], begins: &[usize; 129], top: usize) -> Labelled
     requires { ⌜ Given (now body) (now labels) (now begins)
         × HighestByte (now labels) top
