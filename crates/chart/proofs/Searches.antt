@@ -12,7 +12,7 @@ use Rattle.bits.specs.declared.sets.Set.{Set}
 use Rattle.bits.specs.First.{First}
 use Rattle.bits.specs.Sets.{Has, emptySet, Empty, Members, Union, Difference, Last, SetFits, sizeOf}
 use Rattle.bits.specs.Tables.{WholeSets, rowOf, HasRow, putRow, Words, InSomeFrom}
-use Rattle.bits.proofs.Members.{none, low-has, high-has, has-low, has-high, size-lt, has?}
+use Rattle.bits.proofs.Members.{none, low-has, high-has, has-low, has-high, size-lt, has?, lowest-empty}
 use Rattle.bits.proofs.Words.{bit-below}
 use Rattle.bits.proofs.Determined.{first-one}
 use Rattle.bits.proofs.Gains.{put-long, put-here, put-other, same-table}
@@ -69,7 +69,7 @@ visit-jump a after b t stop w s seen past K l j U P = record {
     on x y (inr p) e = inr (U y .1 (inr (known y .1 (plus-snoc (known x .0 p) (e .1)))))
 
 -- a path from a set that is closed stays in it
-stays : {E : Edges} {s : Set} → Closed E s → {u w : ℕ} → Star E u w → Has s u → Has s w
+pub stays : {E : Edges} {s : Set} → Closed E s → {u w : ℕ} → Star E u w → Has s u → Has s w
 stays C here k = k
 stays C (step e p) k = stays C p (C _ _ k e)
 
@@ -229,35 +229,105 @@ pub record Joining (after : List ℕ) (set all left : Set) : Type 0 where
 pub join-none : {after : List ℕ} {set : Set} → Joining after set set set
 join-none = record { some = λ x h. h; given = λ y h. h; only = λ y h. inl h; gone = λ x h n. absurd (n h) }
 
+-- a round takes some of the members that are left, and has what the table leads to from these
+pub record Taking (after : List ℕ) (left taken extra : Set) : Type 0 where
+  pub within : (x : ℕ) → Has taken x → Has left x
+  pub one : (x : ℕ) × Has taken x
+  pub led : Members (LedTo after taken) extra
+
+-- one of them, and another
+pub take-one : {after : List ℕ} {left none-yet taken extra : Set} {w : ℕ} → none-yet ≡ emptySet → Has left w
+    → ((y : ℕ) → Has taken y ↔ (Has none-yet y ⊎ (y ≡ w))) → extra ≡ rowOf after w → Taking after left taken extra
+take-one {after} {left} {none-yet} {taken} {w = w} z h W e = record {
+  within = λ x i. subst (Has left) (sym (alone x i)) h;
+  one = (w, W w .1 (inr refl));
+  led = record {
+    exactly = λ y l. (
+      λ g. (w, W w .1 (inr refl), rw e at g),
+      λ (x, i, q). rw e (subst (λ (u : ℕ). HasRow after u y) (alone x i) q),
+    );
+  };
+}
+  where
+    alone : (x : ℕ) → Has taken x → x ≡ w
+    alone x i = ⊎-elim (λ k. absurd (none x (rw z at k))) (λ k. k) (W x .0 i)
+
+pub take-another : {after : List ℕ} {left taken extra taken′ row extra′ : Set} {w : ℕ} → Taking after left taken extra → Has left w
+    → ((y : ℕ) → Has taken′ y ↔ (Has taken y ⊎ (y ≡ w))) → row ≡ rowOf after w → Union extra row extra′
+    → Taking after left taken′ extra′
+take-another {after} {left} {w = w} T h W e U = record {
+  within = λ x i. ⊎-elim (T .within x) (λ k. subst (Has left) (sym k) h) (W x .0 i);
+  one = (w, W w .1 (inr refl));
+  led = record {
+    exactly = λ y l. (
+      λ g. ⊎-elim (λ k. let (x, i, q) = T .led .exactly y l .0 k in (x, W x .1 (inl i), q))
+          (λ k. (w, W w .1 (inr refl), rw e at k)) (U y .0 g),
+      λ (x, i, q). U y .1 (⊎-elim (λ k. inl (T .led .exactly y l .1 (x, k, q)))
+          (λ k. inr (rw e (subst (λ (u : ℕ). HasRow after u y) k q))) (W x .0 i)),
+    );
+  };
+}
+
+-- where the lowest number is the highest too, there is no other
+pub lowest-last : {s : Set} {w r : ℕ} → First (Has s) 0 128 r → Last s w → r ≡ w → (x : ℕ) → Has s x → x ≡ w
+lowest-last {s} {w} {r} F L e x h = elim (decLt x w) [
+  | yes l ↦ absurd (F .before x (omega arith) (omega (arith, l, e)) h)
+  | no l ↦ elim (decLt w x) [ yes m ↦ absurd (L .above x m h) | no m ↦ omega (arith, l, m) ]
+]
+
+-- the lowest number of a set that has one is in it
+pub lowest-in : {s : Set} {w r : ℕ} → Has s w → First (Has s) 0 128 r → Has s r
+lowest-in {w = w} {r} h F = F .holds (elim (decLt r 128) [ yes l ↦ l | no l ↦ absurd (lowest-empty F (omega (arith, l)) w h) ])
+
+-- after a round neither those it took nor what they lead to is left, and there are fewer; at the end all is there
 module _ {after : List ℕ} {set all left : Set} (J : Joining after set all left) where
-  pub join-more : {w : ℕ} {one extra both all′ left′ : Set} → Last left w → ((y : ℕ) → Has one y ↔ (Has emptySet y ⊎ (y ≡ w)))
-      → extra ≡ rowOf after w → Union all extra all′ → Union one extra both → Difference left both left′ → Joining after set all′ left′
-  join-more {w} {one} {extra} {both} {all′} {left′} L O e A B D = record {
-    some = λ x h. J .some x (D x .0 h .0);
-    given = λ y h. A y .1 (inl (J .given y h));
-    only = λ y h. ⊎-elim (J .only y) (λ g. inr (w, J .some w (L .has), rw e at g)) (A y .0 h);
-    gone = λ x h n. by-cases (has? left x) (taken x h n) (λ k. let (z, g, i, f) = J .gone x h k in (z, g, i, λ y q. A y .1 (inl (f y q))));
-  }
+  module _ {taken extra both left′ : Set} (T : Taking after left taken extra) (B : Union taken extra both)
+      (D : Difference left both left′) where
+    pub join-more : {all′ : Set} → Union all extra all′ → Joining after set all′ left′
+    join-more {all′} A = record {
+      some = λ x h. J .some x (D x .0 h .0);
+      given = λ y h. A y .1 (inl (J .given y h));
+      only = λ y h. ⊎-elim (J .only y) (λ g. let (z, i, q) = T .led .exactly y (g .below) .0 g in inr (z, from-set z i, q)) (A y .0 h);
+      gone = λ x h n. by-cases (has? left x)
+          (λ k. by-cases (has? both x) (λ g. reached x (B x .0 g)) (λ g. absurd (n (D x .1 (k, g)))))
+          (λ k. let (z, g, i, f) = J .gone x h k in (z, g, i, λ y q. A y .1 (inl (f y q))));
+    }
+      where
+        from-set : (z : ℕ) → Has taken z → Has set z
+        from-set z i = J .some z (T .within z i)
+
+        come : (z : ℕ) → Has taken z → (y : ℕ) → HasRow after z y → Has all′ y
+        come z i y q = A y .1 (inr (T .led .exactly y (q .below) .1 (z, i, q)))
+
+        reached : (x : ℕ) → Has taken x ⊎ Has extra x
+            → (z : ℕ) × Has set z × ((z ≡ x) ⊎ HasRow after z x) × ((y : ℕ) → HasRow after z y → Has all′ y)
+        reached x (inl i) = (x, from-set x i, inl refl, come x i)
+        reached x (inr g) = let (z, i, q) = T .led .exactly x (g .below) .0 g in (z, from-set z i, inr q, come z i)
+
+    pub join-less : sizeOf left′ < sizeOf left
+    join-less = let (w, i) = T .one in
+        size-lt left′ left w (λ y g. D y .0 g .0) (T .within w i) (λ h. D w .0 h .1 (B w .1 (inl i)))
+
+  -- a last round that takes all that is left, of which w is one: w leads to what it reaches
+  pub join-last : {w : ℕ} {row all′ : Set} → ((x : ℕ) → Has left x → x ≡ w) → Has left w → row ≡ rowOf after w → Union all row all′
+      → (a : List ℕ) → ReachedIn a after set → Members (FromSet (Leads a) set) all′
+  join-last {w} {row} {all′} O L e A a R = record { exactly = λ y l. (to y, from y) }
     where
-      come : (y : ℕ) → HasRow after w y → Has all′ y
-      come y q = A y .1 (inr (rw e q))
+      to : (y : ℕ) → Has all′ y → FromSet (Leads a) set y
+      to y h = ⊎-elim
+          (λ k. ⊎-elim (λ g. (y, g, here)) (λ (x, g, q). (x, g, plus-star (R .exactly x y g .0 q))) (J .only y k))
+          (λ k. (w, J .some w L, plus-star (R .exactly w y (J .some w L) .0 (rw e at k))))
+          (A y .0 h)
 
-      taken : (x : ℕ) → Has set x → ¬ Has left′ x → Has left x
-          → (z : ℕ) × Has set z × ((z ≡ x) ⊎ HasRow after z x) × ((y : ℕ) → HasRow after z y → Has all′ y)
-      taken x h n k = by-cases (has? both x)
-          (λ i. (
-            w,
-            J .some w (L .has),
-            ⊎-elim (λ o. inl (sym (⊎-elim (λ q. absurd (none x q)) (λ q. q) (O x .0 o))))
-                (λ q. inr (rw e at q)) (B x .0 i),
-            come,
-          ))
-          (λ i. absurd (n (D x .1 (k, i))))
+      reached : (x y : ℕ) → Has set x → Plus (Leads a) x y → Has all′ y
+      reached x y h q = by-cases (has? left x)
+          (λ k. let z = O x k in A y .1 (inr (rw e (R .exactly w y (J .some w L) .1 (subst (λ (u : ℕ). Plus (Leads a) u y) z q)))))
+          (λ k. let (z, g, i, f) = J .gone x h k in
+          A y .1 (inl (f y (R .exactly z y g .1
+          (⊎-elim (λ e. subst (λ (u : ℕ). Plus (Leads a) u y) (sym e) q) (λ k. plus-then (R .exactly z x g .0 k) q) i)))))
 
-  pub join-less : {w : ℕ} {one extra both left′ : Set} → Last left w → ((y : ℕ) → Has one y ↔ (Has emptySet y ⊎ (y ≡ w)))
-      → Union one extra both → Difference left both left′ → sizeOf left′ < sizeOf left
-  join-less {w} {one} {left′ = left′} L O B D =
-      size-lt left′ left w (λ y g. D y .0 g .0) (L .has) (λ h. D w .0 h .1 (B w .1 (inl (O w .1 (inr refl)))))
+      from : (y : ℕ) → FromSet (Leads a) set y → Has all′ y
+      from y (x, h, p) = ⊎-elim (λ e. A y .1 (inl (J .given y (subst (Has set) e h)))) (reached x y h) (star-cases p)
 
   pub join-all : Empty left → (a : List ℕ) → ReachedIn a after set → Members (FromSet (Leads a) set) all
   join-all E a R = record { exactly = λ y l. (to y, from y) }

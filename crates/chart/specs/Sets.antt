@@ -64,6 +64,20 @@ OnCycle a x = Plus (Leads a) x x
 pub record ReachedIn (a after : List ℕ) (s : Set) : Type 0 where
   pub exactly : (x y : ℕ) → Has s x → HasRow after x y ↔ Plus (Leads a) x y
 
+-- and the members are on no cycle and lead to members alone
+pub record Settled (a after : List ℕ) (s : Set) : Type 0 where
+  pub known : ReachedIn a after s
+  pub closed : Closed (Leads a) s
+  pub acyclic : (x : ℕ) → Has s x → ¬ OnCycle a x
+
+-- r has the set, and perhaps some with P, which are settled now; the sets of others stay
+pub record Settles (a : List ℕ) (P : ℕ → Type 0) (before : List ℕ) (s : Set) (after : List ℕ) (r : Set) : Type 0 where
+  pub long : length after ≡ length before
+  pub settled : Settled a after r
+  pub more : (x : ℕ) → Has s x → Has r x
+  pub within : (x : ℕ) → Has r x → Has s x ⊎ P x
+  pub others : (x : ℕ) → ¬ P x → rowOf after x ≡ rowOf before x
+
 -- if the set has w, w is on a cycle; if not, it has what w reaches by one step or more
 pub record TurnReaches (a : List ℕ) (w : ℕ) (r : Set) : Type 0 where
   pub cyclic : Has r w → OnCycle a w
@@ -86,6 +100,14 @@ pub record Searched (a : List ℕ) (n : ℕ) (down : Bool) (before : List ℕ) (
   pub first : First (λ (j : ℕ). OnCycle a (turnOf j n down)) 0 n r
   pub known : r ≡ n → Known a after 0 n
   pub others : (x : ℕ) → n ≤ x → rowOf after x ≡ rowOf before x
+
+-- no vertex below n outside r is on a cycle, and set x of after has what x reaches, for each x of them; the sets from n
+-- on stay
+pub record SettledBut (a : List ℕ) (n : ℕ) (before : List ℕ) (r : Set) (after : List ℕ) : Type 0 where
+  pub long : length after ≡ length before
+  pub others : (x : ℕ) → n ≤ x → rowOf after x ≡ rowOf before x
+  pub acyclic : (x : ℕ) → x < n → ¬ Has r x → ¬ OnCycle a x
+  pub known : (x y : ℕ) → x < n → ¬ Has r x → HasRow after x y ↔ Plus (Leads a) x y
 
 -- r is the lowest of the first n vertices that is on a cycle, or n; what the lent table has then, and where there is
 -- a cycle

@@ -8,7 +8,7 @@ ghost use Prim.Native.Nat.{_+_, _*_, _≤_, _<_};
 ghost use lib.ListN.{length};
 ghost use Rattle.chart.specs.Bodies.{verticesOf, countOf, HeaderFits, SoundTo};
 ghost use Rattle.chart.specs.Checks.{headerOk, checkOf};
-ghost use Rattle.chart.specs.Codes.{reversedOf, codeRises, codeOk, Turn};
+ghost use Rattle.chart.specs.Codes.{codeKey, codeRises, codeOk, Turn};
 ghost use Rattle.chart.specs.Leaving.{leavingAt, leavingOf, FromBelow, RangeOf, NotPast, Begins};
 ghost use Rattle.chart.specs.Steps.{Kept};
 ghost use Rattle.bits.specs.First.{Split};
@@ -41,23 +41,21 @@ fn header_ok(body: &[u8]) -> bool
     (2 <= v) & (v <= 128) & (1 <= start) & (start < v) & (n <= 8192) & (body.len() == 4 + 4 * n)
 }
 
-// The bytes of a transition's code, the first highest: the order of charts.
-fn reversed(code: u32) -> u32
-    ensures { λ r. ⌜ r ≡ reversedOf code ⌝ }
+// The key of a transition's code: its from, its action and what is above them. Where the last byte is 0 that is the to,
+// and keys are in the order of charts.
+fn key_of(code: u32) -> u32
+    ensures { λ r. ⌜ r ≡ codeKey code ⌝ }
 {
-    16777216 * (code % 256)
-        + 65536 * (code / 256 % 256)
-        + 256 * (code / 65536 % 256)
-        + code / 16777216
+    65536 * (code % 256) + 256 * (code / 256 % 256) + code / 65536
 }
 
-// 21 of a transition but for a from of V or above, by its code and its key, the code reversed, after the key before it.
-// That is 16777215 or more, so the first comparison refuses a from of 0; the last refuses a last byte other than 0.
+// 21 of a transition but for a from of V or above, by its code and its key, after the key before it. The last
+// comparison is of the to and the last byte as one number, so it refuses a last byte other than 0. With that byte 0 the
+// key of a from of 0 is at most 65535, and the key before it is no less: the first comparison refuses that.
 fn code_rises(code: u32, key: u32, v: u32, before: u32) -> bool
-    requires { ⌜ v ≤ 128 ⌝ }
     ensures { λ r. ⌜ r ≡ codeRises code key v before ⌝ }
 {
-    (before < key) & (1 <= code / 256 % 256) & (code < 65536 * v)
+    (before < key) & (1 <= code / 256 % 256) & (code / 65536 < v)
 }
 
 // 21 of a transition.
@@ -65,7 +63,7 @@ fn code_ok(code: u32, key: u32, v: u32, before: u32) -> bool
     requires { ⌜ v ≤ 128 ⌝ }
     ensures { λ r. ⌜ r ≡ codeOk code key v before ⌝ }
 {
-    code_rises(code, key, v, before) & (key < 16777216 * v)
+    code_rises(code, key, v, before) & (key < 65536 * v)
 }
 
 // The key before byte p. Before the first transition that is the number just below the keys whose from is 1.
@@ -74,13 +72,13 @@ fn key_before(body: &[u8], p: usize) -> u32
     ensures { λ r. ⌜ Turn (now (body .entry)) p r ⌝ }
 {
     if p == 4 {
-        return 16777215;
+        return 65535;
     }
-    reversed(read_u32(body, p - 4))
+    key_of(read_u32(body, p - 4))
 }
 
 // Whether 21 lets the 32 transitions from byte p on pass, where `first` is the key before them. A refusal does not end
-// the loop, so that the compiler tests several at once; keys rise, so the last one's from is below V if each one's is.
+// the loop, so that the compiler tests several at once; keys rise, so each one's from is below V if the last one's is.
 fn block_ok(body: &[u8], p: usize, v: u32, first: u32) -> bool
     requires { ⌜ Turn (now body) p first × (v ≡ verticesOf (now body)) × (p + 128 ≤ length (now body)) ⌝ }
     ensures { λ r. ⌜ (r ≡ true → SoundTo (now (body .entry)) (p + 128)) ⌝ }
@@ -90,12 +88,12 @@ fn block_ok(body: &[u8], p: usize, v: u32, first: u32) -> bool
     let mut i: usize = 0;
     while i < 32 {
         let code = read_u32(body, p + 4 * i);
-        let key = reversed(code);
+        let key = key_of(code);
         good = good & code_rises(code, key, v, before);
         before = key;
         i += 1;
     }
-    good & (before < 16777216 * v)
+    good & (before < 65536 * v)
 }
 
 // The end of the blocks of 32 transitions that pass, from the first on.
@@ -124,7 +122,7 @@ fn check_from(body: &[u8], v: u32, at: usize) -> Stage
     let mut p = at;
     while p + 4 <= body.len() {
         let code = read_u32(body, p);
-        let key = reversed(code);
+        let key = key_of(code);
         if !code_ok(code, key, v, before) {
             return Stage::Refused(Place::Transition((p - 4) / 4));
         }

@@ -16,6 +16,7 @@ ghost use Rattle.bits.specs.Tables.{WholeSets};
 ghost use Rattle.theory.specs.Paths.{Avoid};
 ghost use Rattle.chart.specs.Sets.{Leads, LedTo, FromSet, ClosedBut, InOrFrom, Known, Jumps, Visited};
 ghost use Rattle.chart.specs.Sets.{ReachedIn, TurnReaches, turnOf, beginOf, endOf, Searched, Cycles};
+ghost use Rattle.chart.specs.Sets.{Settled, Settles, SettledBut};
 
 // What is seen, and those of it whose successors are seen too.
 pub struct Search {
@@ -197,6 +198,27 @@ fn joined(after: &[u64], set: Set) -> Set
     all
 }
 
+// The same, by the highest and the lowest member that is left at once: the two rows are read together.
+fn joined_by_two(after: &[u64], set: Set) -> Set
+    requires { ⌜ ((x : ℕ) → Has set x → 2 * x + 2 ≤ length (now after)) ⌝ }
+    ensures { λ r. ⌜ ((a : List ℕ) → ReachedIn a (now (after .entry)) set → Members (FromSet (Leads a) set) r) ⌝ }
+{
+    let mut all = set;
+    let mut left = set;
+    while !left.is_empty() {
+        let marked = Set::empty().with_highest(left);
+        let low = left.lowest();
+        let first = row(after, low);
+        if low == marked.at {
+            return all.union(first);
+        }
+        let more = row(after, marked.at).union(first);
+        all = all.union(more);
+        left = left.difference(marked.set.with(low).union(more));
+    }
+    all
+}
+
 // What w reaches, at its turn: the vertices whose turn is past are known.
 fn turn_reaches(next: &[u64], after: &[u64], from: usize, to: usize, past: Set, w: usize) -> Set
     requires { ⌜ WholeSets (now next)
@@ -208,7 +230,7 @@ fn turn_reaches(next: &[u64], after: &[u64], from: usize, to: usize, past: Set, 
 {
     let set = row_or_empty(next, w);
     if set.difference(past).is_empty() {
-        return joined(after, set);
+        return joined_by_two(after, set);
     }
     closure_knowing(next, after, from, to, w, set)
 }
@@ -248,10 +270,9 @@ fn cycle_from_below(next: &[u64], n: usize, after: &mut [u64]) -> usize
     r
 }
 
-// The lowest of the first n vertices that reaches itself, or n: then `after` has what each of them reaches, and the
-// sets of the others stay. Where there is a cycle `after` has nothing. A cycle found from above need not be that of
-// the lowest vertex.
-pub fn cycle(next: &[u64], n: usize, after: &mut [u64]) -> usize
+// The turns from above, or from below where more is known so. A cycle found from above need not be that of the lowest
+// vertex.
+fn cycle_by_turns(next: &[u64], n: usize, after: &mut [u64]) -> usize
     requires { ⌜ WholeSets (now next) × (n ≤ 128) × (2 * n ≤ length (now after)) ⌝ }
     ensures { λ r. ⌜ Cycles (now (next .entry)) n (now (after .entry)) r (now (after .exit)) ⌝ }
 {
@@ -265,4 +286,87 @@ pub fn cycle(next: &[u64], n: usize, after: &mut [u64]) -> usize
         return n;
     }
     cycle_from_below(next, n, after)
+}
+
+// The turn of w: where it leads to settled vertices alone, it is settled too.
+fn settle_one(next: &[u64], after: &mut [u64], w: usize, settled: Set) -> Set
+    requires { ⌜ WholeSets (now next)
+        × (w < 128)
+        × (2 * w + 2 ≤ length (now after))
+        × ((x : ℕ) → Has settled x → 2 * x + 2 ≤ length (now after))
+        × Settled (now next) (now after) settled
+        × (¬ Has settled w) ⌝ }
+    ensures { λ r. ⌜ Settles (now (next .entry)) (λ (x : ℕ). x ≡ w)
+        (now (after .entry)) settled (now (after .exit)) r ⌝ }
+{
+    let set = row_or_empty(next, w);
+    if !set.difference(settled).is_empty() {
+        return settled;
+    }
+    let all = joined(after, set);
+    put_row(after, w, all);
+    settled.with(w)
+}
+
+// A turn for each of some vertices, the lowest first.
+fn settle_round(next: &[u64], after: &mut [u64], among: Set, settled: Set) -> Set
+    requires { ⌜ WholeSets (now next)
+        × ((x : ℕ) → Has among x → 2 * x + 2 ≤ length (now after))
+        × ((x : ℕ) → Has settled x → 2 * x + 2 ≤ length (now after))
+        × Settled (now next) (now after) settled
+        × ((x : ℕ) → Has among x → ¬ Has settled x) ⌝ }
+    ensures { λ r. ⌜ Settles (now (next .entry)) (Has among) (now (after .entry)) settled (now (after .exit)) r ⌝ }
+{
+    let mut past = settled;
+    let mut left = among;
+    let mut w = left.lowest();
+    while w < 128 {
+        past = settle_one(next, after, w, past);
+        left = left.without_lowest();
+        w = left.lowest();
+    }
+    past
+}
+
+// Rounds of the first n vertices, as long as each settles another. The vertices that are left: those on a cycle, and
+// those that lead to one.
+fn settle(next: &[u64], n: usize, after: &mut [u64]) -> Set
+    requires { ⌜ WholeSets (now next) × (n ≤ 128) × (2 * n ≤ length (now after)) ⌝ }
+    ensures { λ r. ⌜ SettledBut (now (next .entry)) n (now (after .entry)) r (now (after .exit)) ⌝ }
+{
+    let all = Set::below(n);
+    let mut settled = Set::empty();
+    let mut left = all;
+    while !left.is_empty() {
+        let more = settle_round(next, after, left, settled);
+        if more.difference(settled).is_empty() {
+            return left;
+        }
+        settled = more;
+        left = all.difference(settled);
+    }
+    left
+}
+
+// By rounds: in a small chart they are few, whatever the order of the vertices.
+fn cycle_by_rounds(next: &[u64], n: usize, after: &mut [u64]) -> usize
+    requires { ⌜ WholeSets (now next) × (n ≤ 128) × (2 * n ≤ length (now after)) ⌝ }
+    ensures { λ r. ⌜ Cycles (now (next .entry)) n (now (after .entry)) r (now (after .exit)) ⌝ }
+{
+    if settle(next, n, after).is_empty() {
+        return n;
+    }
+    cycle_from_below(next, n, after)
+}
+
+// The lowest of the first n vertices that reaches itself, or n: then `after` has what each of them reaches, and the
+// sets of the others stay. Where there is a cycle `after` has nothing.
+pub fn cycle(next: &[u64], n: usize, after: &mut [u64]) -> usize
+    requires { ⌜ WholeSets (now next) × (n ≤ 128) × (2 * n ≤ length (now after)) ⌝ }
+    ensures { λ r. ⌜ Cycles (now (next .entry)) n (now (after .entry)) r (now (after .exit)) ⌝ }
+{
+    if n <= 32 {
+        return cycle_by_rounds(next, n, after);
+    }
+    cycle_by_turns(next, n, after)
 }

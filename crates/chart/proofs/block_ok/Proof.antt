@@ -12,7 +12,7 @@ use Rattle.chart.proofs.block_ok.Statement.{statement}
 use Rattle.chart.proofs.block_ok.Tie as tie
 
 abbrev Inv-loop : tie.InvT-loop
-Inv-loop body p v first good₀ before₀ i₀ good before i = (i ≤ 32) × (good ≡ true → before < 16777216 * v → Turn body (p + 4 * i) before)
+Inv-loop body p v first good₀ before₀ i₀ good before i = (i ≤ 32) × (good ≡ true → before < 65536 * v → Turn body (p + 4 * i) before)
 
 abbrev μ-loop : tie.MeasureT-loop
 μ-loop body p v first good₀ before₀ i₀ good before i = 32 - i
@@ -34,13 +34,11 @@ add-read-u32 c =
 read-u32-requires : tie.Need-read-u32-requires Inv-loop μ-loop
 read-u32-requires c κs = omega (arith, c .before .before .before .pre .2)
 
-reversed-requires : tie.Need-reversed-requires Inv-loop μ-loop
-reversed-requires c κs = search needs
+key-of-requires : tie.Need-key-of-requires Inv-loop μ-loop
+key-of-requires c κs = search needs
 
 code-rises-requires : tie.Need-code-rises-requires Inv-loop μ-loop
-code-rises-requires c κs =
-    let q = c .before .before .before .before .before .pre in
-    omega (arith, q .0 .sound .header .vertices-high, q .1)
+code-rises-requires c κs = search needs
 
 add-i : tie.Need-add-i Inv-loop μ-loop
 add-i c = search needs
@@ -58,10 +56,11 @@ loop-again c =
       omega arith,
       λ h b.
           let e = sym (c .code-rises .ensures) ∙ right (l .good) (c .code-rises .result) h in
+          let t = l .inv .1 (left (l .good) (c .code-rises .result) h) (omega (arith, b, rises _ _ _ _ e)) in
           rw s
-          (turn-rises (λ j. omega (arith, k .shared-slice-known .given j)) (l .inv .1 (left (l .good) (c .code-rises .result) h) (omega (arith, b, rises _ _ _ _ e)))
+          (turn-rises (λ j. omega (arith, k .shared-slice-known .given j)) t
           (omega (arith, k .before .pre .2)) (k .before .pre .1) (c .before .before .read-u32 .ensures .0)
-          (c .before .reversed .ensures) e b),
+          (c .before .key-of .ensures) e b),
     )
 
 mul-result : tie.Need-mul-result Inv-loop μ-loop
@@ -74,7 +73,7 @@ unfolding _and_
 returns c e =
     let l = c .before .loop in
     let s : l .i ≡ 32 = omega (arith, l .inv .0) in
-    let below = ltb-true (l .before) (16777216 * c .before .before .before .args .v) (right (l .good) _ e) in
+    let below = ltb-true (l .before) (65536 * c .before .before .before .args .v) (right (l .good) _ e) in
     (rw s at (l .inv .1 (left (l .good) _ e) below)) .sound
 
 pub block-ok-spec : {M : Type 1} → statement M
@@ -87,7 +86,7 @@ block-ok-spec =
     mul-read-u32
     add-read-u32
     read-u32-requires
-    reversed-requires
+    key-of-requires
     code-rises-requires
     add-i
     loop-less

@@ -27,8 +27,8 @@ add-loop c = let s = c .loop .inv .sound in omega (arith, s .header .count-high,
 read-u32-requires : tie.Need-read-u32-requires Inv-loop μ-loop
 read-u32-requires c κs = search needs
 
-reversed-requires : tie.Need-reversed-requires Inv-loop μ-loop
-reversed-requires c κs = search needs
+key-of-requires : tie.Need-key-of-requires Inv-loop μ-loop
+key-of-requires c κs = search needs
 
 code-ok-requires : tie.Need-code-ok-requires Inv-loop μ-loop
 code-ok-requires c κs =
@@ -43,7 +43,7 @@ returns c =
     let t = c .before .before .before .before .before in
     let k = t .before .before in
     turn-stop (λ j. omega (arith, k .shared-slice-known .given j)) (t .loop .inv) (omega arith) (k .before .pre .1)
-    (c .before .before .before .read-u32 .ensures .0) (c .before .before .reversed .ensures)
+    (c .before .before .before .read-u32 .ensures .0) (c .before .before .key-of .ensures)
     (sym (c .before .code-ok .ensures) ∙ not-true _ (c .if1 .taken))
 
 add-p : tie.Need-add-p Inv-loop μ-loop
@@ -57,7 +57,7 @@ loop-again c =
     let t = c .before .before .before .before .before in
     let k = t .before .before in
     turn-step (λ j. omega (arith, k .shared-slice-known .given j)) (t .loop .inv) (omega arith) (k .before .pre .1)
-    (c .before .before .before .read-u32 .ensures .0) (c .before .before .reversed .ensures)
+    (c .before .before .before .read-u32 .ensures .0) (c .before .before .key-of .ensures)
     (sym (c .before .code-ok .ensures) ∙ not-false _ (c .if1 .left))
 
 returns-2 : tie.Need-returns-2 Inv-loop μ-loop
@@ -73,7 +73,7 @@ check-from-spec =
     loop-holds
     add-loop
     read-u32-requires
-    reversed-requires
+    key-of-requires
     code-ok-requires
     sub-t12
     returns

@@ -13,15 +13,15 @@ sub-read-u32 c = search needs
 read-u32-requires : tie.Need-read-u32-requires
 read-u32-requires c κs = search needs
 
-reversed-requires : tie.Need-reversed-requires
-reversed-requires c κs = search needs
+key-of-requires : tie.Need-key-of-requires
+key-of-requires c κs = search needs
 
 returns-2 : tie.Need-returns-2
 returns-2 c =
     let k = c .before .before .before in
-    rw (c .reversed .ensures, c .before .read-u32 .ensures .0)
+    rw (c .key-of .ensures, c .before .read-u32 .ensures .0)
     (turn-later (λ j. omega (arith, k .shared-slice-known .given j)) (k .before .pre) (omega (arith, k .before .pre .place)))
 
 pub key-before-spec : {M : Type 1} → statement M
 key-before-spec =
-    tie.close (tie.spec returns sub-read-u32 read-u32-requires reversed-requires returns-2)
+    tie.close (tie.spec returns sub-read-u32 read-u32-requires key-of-requires returns-2)

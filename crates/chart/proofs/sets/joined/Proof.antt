@@ -5,7 +5,7 @@ use Prim.Native.Nat.{ℕ, _+_, _*_, _≤_}
 use lib.ListN.{length}
 use borrow.Author.Tests.{not-true, not-false}
 use Rattle.bits.specs.Sets.{Has, sizeOf}
-use Rattle.chart.proofs.Searches.{Joining, join-none, join-more, join-less, join-all}
+use Rattle.chart.proofs.Searches.{Joining, join-none, take-one, join-more, join-less, join-all}
 use Rattle.chart.proofs.sets.joined.Statement.{statement}
 use Rattle.chart.proofs.sets.joined.Tie as tie
 
@@ -44,19 +44,17 @@ difference-requires c κs = search needs
 loop-less : tie.Need-loop-less Inv-loop μ-loop
 loop-less c =
     let m = c .before .before .before .before in
-    join-less (m .before .before .before .before .loop .inv .1) (m .with-highest .ensures .0)
-    (rw (m .before .empty .ensures) at (m .with-highest .ensures .1))
-    (c .before .union2 .ensures) (c .difference .ensures)
+    let W = m .with-highest .ensures in
+    let T = take-one (m .before .empty .ensures) (W .0 .has) (W .1) (c .before .before .before .row .ensures) in
+    join-less (m .before .before .before .before .loop .inv .1) T (c .before .union2 .ensures) (c .difference .ensures)
 
 loop-again : tie.Need-loop-again Inv-loop μ-loop
 loop-again c =
     let m = c .before .before .before .before in
     let i = m .before .before .before .before .loop .inv in
-    let one = rw (m .before .empty .ensures) at (m .with-highest .ensures .1) in (
-      i .0,
-      join-more (i .1) (m .with-highest .ensures .0) one (c .before .before .before .row .ensures) (c .before .before .union .ensures)
-          (c .before .union2 .ensures) (c .difference .ensures),
-    )
+    let W = m .with-highest .ensures in
+    let T = take-one (m .before .empty .ensures) (W .0 .has) (W .1) (c .before .before .before .row .ensures) in
+    (i .0, join-more (i .1) T (c .before .union2 .ensures) (c .difference .ensures) (c .before .before .union .ensures))
 
 returns : tie.Need-returns Inv-loop μ-loop
 returns c = join-all (c .before .before .loop .inv .1) (c .before .is-empty .ensures .0 (not-false _ (c .if1 .left)))

@@ -14,8 +14,8 @@ difference-requires c κs = search needs
 is-empty-requires : tie.Need-is-empty-requires
 is-empty-requires c κs = search needs
 
-joined-requires : tie.Need-joined-requires
-joined-requires c κs =
+joined-by-two-requires : tie.Need-joined-by-two-requires
+joined-by-two-requires c κs =
     let d = c .before .before in
     let p = d .before .before .before .before .pre in
     λ x h. let (f, t) = p .3 x (all-in (d .difference .ensures) (c .before .is-empty .ensures .0 (c .if1 .taken)) x h) in
@@ -31,7 +31,7 @@ returns c =
       exactly = λ x y h. let (f, t) = p .3 x (all-in (d .difference .ensures) (e .is-empty .ensures .0 (c .before .if1 .taken)) x h) in
           p .2 .exactly x y f t (h .below);
     } in
-    joined-turn (p .4) (rw (d .before .row-or-empty .ensures) at (c .joined .ensures (k .args .next .now) R))
+    joined-turn (p .4) (rw (d .before .row-or-empty .ensures) at (c .joined-by-two .ensures (k .args .next .now) R))
 
 closure-knowing-requires : tie.Need-closure-knowing-requires
 closure-knowing-requires c κs = let p = c .before .before .before .before .before .before .pre in (p .0, p .1, p .2, p .4)
@@ -48,7 +48,7 @@ turn-reaches-spec =
     row-or-empty-requires
     difference-requires
     is-empty-requires
-    joined-requires
+    joined-by-two-requires
     returns
     closure-knowing-requires
     returns-2)

@@ -1,8 +1,8 @@
 use Rattle.chart.proofs.Searches.{from-above, from-below-again}
 use borrow.Author.Needs.{needs}
 use native.Mathlib.Omega.{arith}
-use Rattle.chart.proofs.sets.cycle.Statement.{statement}
-use Rattle.chart.proofs.sets.cycle.Tie as tie
+use Rattle.chart.proofs.sets.cycle_by_turns.Statement.{statement}
+use Rattle.chart.proofs.sets.cycle_by_turns.Tie as tie
 
 row-or-empty-requires : tie.Need-row-or-empty-requires
 row-or-empty-requires c κs = search needs
@@ -43,8 +43,8 @@ returns-3 c =
     from-below-again (c .before .before .before .before .before .before .before .first-turn .ensures)
     (c .before .before .before .before .if2 .left) (c .before .before .cycle-from-below2 .ensures)
 
-pub cycle-spec : {M : Type 1} → statement M
-cycle-spec =
+pub cycle-by-turns-spec : {M : Type 1} → statement M
+cycle-by-turns-spec =
     tie.close
     (tie.spec
     row-or-empty-requires
