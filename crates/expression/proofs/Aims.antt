@@ -14,7 +14,7 @@ use borrow.Author.Tests.{eqb-true, eqb-false, ltb-true, ltb-false}
 use Rattle.theory.specs.Nodes.{Op, op-sum, op-product, op-star, Node, bad, dead, leaf, bin, one, usesIn, uses, follow, aboveLeft, after}
 use Rattle.theory.specs.ExpressionCharts.{vertexOf}
 use Rattle.theory.proofs.Up.{after-left, after-right, after-last}
-use Rattle.expression.specs.Table.{kindOf, leftOf, rightOf, node, count, opOf, WellFormed}
+use Rattle.expression.specs.Table.{kindOf, leftOf, rightOf, node, isGood, count, opOf, WellFormed}
 use Rattle.expression.specs.Targets.{targetOf, aimLeft, aim, Targets}
 use Rattle.expression.proofs.Table.{node-low, tree}
 use Rattle.expression.proofs.View.{at-dead, at-leaf, at-bin}
@@ -143,12 +143,12 @@ module _ (s : List ℕ) (w : WellFormed s) where
       go (leaf x) ev q = same (leaf x) ev (λ j u. omega arith) q
       go (bin o l r) ev q = both o l r ev q
 
+  -- only the root's target counts at the start
+  pub aim-from : (n : ℕ) (a : List ℕ) → n ≡ count s → length a ≡ 128 → getD a (count s - 1) 0 ≡ 0 → Aimed s n a
+  aim-from n a e long z = record { long = long; root = z ∙ root-target; operand = λ p j g lt u. absurd (omega arith) }
+
   pub aim-start : (n : ℕ) → n ≡ count s → Aimed s n (replicate 128 0)
-  aim-start n e = record {
-    long = length-replicate {A = ℕ} 128 0;
-    root = zeros 128 (count s - 1) ∙ root-target;
-    operand = λ p j g lt u. absurd (omega arith);
-  }
+  aim-start n e = aim-from n (replicate 128 0) e (length-replicate {A = ℕ} 128 0) (zeros 128 (count s - 1))
 
   pub aim-end : (a : List ℕ) → Aimed s 0 a → Targets s a
   aim-end a i = record { long = i .long; each = λ j h. own-target j a h (later j) }
@@ -156,15 +156,15 @@ module _ (s : List ℕ) (w : WellFormed s) where
       later : (j : ℕ) → Aimed s (suc j) a
       later j = record { long = i .long; root = i .root; operand = λ p q g lt u. i .operand p q (omega arith) lt u }
 
-  -- what the code stores
-  module _ (k : ℕ) (h : k < count s) where
-    pub aim-none : (a : List ℕ) → kindOf s k < 2 → a ≡ aim k (node s k) a
-    aim-none a q = go (eqb (kindOf s k) 0) refl
-      where
-        go : (b : Bool) → eqb (kindOf s k) 0 ≡ b → a ≡ aim k (node s k) a
-        go true e = rw (at-dead s k (w .good k h) (eqb-true (kindOf s k) 0 e))
-        go false e = let d = eqb-false (kindOf s k) 0 e in rw (at-leaf s k (w .good k h) (omega arith))
+-- what the code stores
+module _ (s : List ℕ) (k : ℕ) (good : isGood (node s k) ≡ true) where
+  pub aim-none : (a : List ℕ) → kindOf s k < 2 → a ≡ aim k (node s k) a
+  aim-none a q = go (eqb (kindOf s k) 0) refl
+    where
+      go : (b : Bool) → eqb (kindOf s k) 0 ≡ b → a ≡ aim k (node s k) a
+      go true e = rw (at-dead s k good (eqb-true (kindOf s k) 0 e))
+      go false e = let d = eqb-false (kindOf s k) 0 e in rw (at-leaf s k good (omega arith))
 
-    pub aim-both : (a : List ℕ) (m l r t : ℕ) → 2 ≤ kindOf s k → m ≡ kindOf s k → l ≡ leftOf s k → r ≡ rightOf s k → t ≡ aimLeft (opOf m) k r (getD a k 0)
-        → set (set a l t) r (getD a k 0) ≡ aim k (node s k) a
-    aim-both a m l r t q em el er et = rw (at-bin s k (w .good k h) q, et, em, el, er)
+  pub aim-both : (a : List ℕ) (m l r t : ℕ) → 2 ≤ kindOf s k → m ≡ kindOf s k → l ≡ leftOf s k → r ≡ rightOf s k
+      → t ≡ aimLeft (opOf m) k r (getD a k 0) → set (set a l t) r (getD a k 0) ≡ aim k (node s k) a
+  aim-both a m l r t q em el er et = rw (at-bin s k good q, et, em, el, er)

@@ -4,6 +4,7 @@ pub mod View
 pub mod Uses
 pub mod Answers
 pub mod Aims
+pub mod Trees
 pub mod KeyLaws
 pub mod Under
 pub mod Firsts

@@ -91,7 +91,7 @@ module _ (keys words : List ℕ) where
     word-ascends k =
         let x = getD words (suc k) 0 in
         map-ascends ltb precedes (transitionOf keys k) (bitsOf x 64) (bits-ascend x 64)
-        (λ i j p q h. keys-precede keys k i j (C .rising i j (ltb-true i j h) (C .known (suc k) j (bits→ x 64 j q .1))))
+        (λ i j p q h. keys-precede keys k i j (C .rising i j (ltb-true i j h) (C .listed .known (suc k) j (bits→ x 64 j q .1))))
 
     listing-ascends : (k n : ℕ) → Ascending precedes (listing keys words k n)
     unfolding listing transitionOf
@@ -105,7 +105,7 @@ module _ (keys words : List ℕ) where
         lower-from x y (omega (arith, a, b, l)))
 
     pub keys-fit : (u : ℕ) → KeysFit keys (getD words u 0)
-    keys-fit u = record { each = λ i on. C .fit i (C .known u i on) }
+    keys-fit u = record { each = λ i on. C .listed .fit i (C .listed .known u i on) }
 
 -- THE THEOREM
 module _ (s keys words : List ℕ) (m n : ℕ) (all : n ≡ count s) (N : Numbered (bodyOf s) keys words m) where
@@ -113,7 +113,7 @@ module _ (s keys words : List ℕ) (m n : ℕ) (all : n ≡ count s) (N : Number
   unfolding transitionOf
   listed p x r =
       let y : Transition = transitionOf keys p (r .rank) in
-      let a = N .exactly (y .0) (y .1) (y .2) .1 (r .rank, N .coded .known (suc p) (r .rank) (r .on), refl, refl, r .on) in
+      let a = N .exactly (y .0) (y .1) (y .2) .1 (r .rank, N .coded .listed .known (suc p) (r .rank) (r .on), refl, refl, r .on) in
       subst (λ (z : Transition). List·Memᴰ z (chartOf s)) (r .is) (rw (body-transitions s) at (acts-member (bodyOf s) (y .0) (y .1) (y .2) .0 a))
 
   transition-is : (k i : ℕ) (x : Transition) → x .0 ≡ suc k → getD keys i 0 / 256 ≡ x .1 → getD keys i 0 % 256 ≡ x .2 → transitionOf keys k i ≡ x
@@ -128,7 +128,8 @@ module _ (s keys words : List ℕ) (m n : ℕ) (all : n ≡ count s) (N : Number
       (λ x mem. let (k, h, e, z) = transitions→ (node s) (count s) x mem in
       let (i, q, ea, et, on) = N .exactly (x .0) (x .1) (x .2) .0 (acts-member (bodyOf s) (x .0) (x .1) (x .2) .1 (rw (body-transitions s) mem)) in
       subst (λ (y : Transition). List·Memᴰ y (listing keys words 0 n)) (transition-is k i x e ea et)
-      (listing← keys words 0 n k i (omega arith) (omega (arith, all, h)) (omega (arith, q, N .coded .few)) (subst (λ (u : ℕ). On (getD words u 0) i) e on)))
+      (listing← keys words 0 n k i (omega arith) (omega (arith, all, h)) (omega (arith, q, N .coded .listed .few))
+      (subst (λ (u : ℕ). On (getD words u 0) i) e on)))
 
   pub chart-many : (t : ℕ) → t ≡ bitsFrom words 0 n → t ≡ length (chartOf s)
   chart-many t e = e ∙ sym (listing-many words keys 0 n) ∙ ap length listing-is-chart

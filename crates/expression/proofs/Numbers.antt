@@ -19,16 +19,16 @@ use Rattle.theory.proofs.Ascending.{one-list, ltb-order, member-at, sort→}
 use Rattle.theory.proofs.Down.{first-at}
 use Rattle.theory.proofs.ExpressionCharts.{transitions→, transitions←}
 use Rattle.theory.proofs.Bounds.{first-leaf}
-use Rattle.chart.specs.Numbered.{Numbered}
+use Rattle.chart.specs.Numbered.{Lists, Numbered}
 use Rattle.chart.proofs.Relations.{acts-member}
 use Rattle.expression.specs.Table.{actionOf, node, count, WellFormed}
 use Rattle.expression.specs.Body.{chartOf, bodyOf}
 use Rattle.expression.specs.Targets.{targetOf}
-use Rattle.expression.specs.Keys.{keyOf, onLeaf, leafKeys, keysBelow, Keyed, Ranked}
+use Rattle.expression.specs.Keys.{keyOf, onLeaf, leafKeys, keysBelow, Keyed, Ranked, RankedLeaves}
 use Rattle.expression.specs.Words.{LeafRanks, Worded}
 use Rattle.expression.proofs.Table.{tree}
 use Rattle.expression.proofs.View.{at-leaf, leaf-action}
-use Rattle.expression.proofs.KeyLaws.{target-le, keyed-ascend, keyed-half, rises, mem-at}
+use Rattle.expression.proofs.KeyLaws.{target-le, leaves-half, keyed-ascend, keyed-few, keyed-most, rises, mem-at}
 use Rattle.expression.proofs.Chart.{body-transitions}
 use Rattle.expression.proofs.WordLaws.{off}
 
@@ -60,36 +60,22 @@ one-place keys m rise i j h g e = elim (decLt i j) [
   ]
 ]
 
--- THE ANSWER
-module _ (s : List ℕ) (w : WellFormed s) (keys : List ℕ) (m : ℕ) (ranks : List ℕ) (keyed : Keyed s (count s) keys m) (ranked : Ranked s (count s) keys m ranks) where
+-- THE ANSWER, in any order
+module _ (s : List ℕ) (w : WellFormed s) (keys : List ℕ) (m : ℕ) (ranks : List ℕ)
+    (ranked : RankedLeaves s (count s) keys m ranks) where
   few : m ≤ 64
-  few = keyed-half s (count s) keys m keyed w refl
+  few = let h = leaves-half s w in let l = ranked .many in omega arith
 
-  long-keys : length (take m keys) ≡ m
-  long-keys = length-take-le m keys (let f = few in let l = keyed .long in omega arith)
-
-  keys-rise : (i j : ℕ) → i < j → j < m → getD keys i 0 < getD keys j 0
-  keys-rise = rises keys m (let f = few in let l = keyed .long in omega arith) (keyed-ascend s (count s) keys m keyed)
-
-  -- a key is that of a leaf
-  key-leaf : (i : ℕ) → i < m → KeyOfLeaf s (count s) (getD keys i 0)
-  unfolding keysBelow
-  key-leaf i h =
-      let l = long-keys in
-      let key = getD (take m keys) i 0 in
-      let mem = subst (List·Memᴰ key) (keyed .are) (member-at ltb ltb-order 0 (take m keys) i (omega arith)) in
-      let (j, a, g, e, q) = leaf-of s (count s) key (sort→ ltb key (leafKeys s (count s)) mem) in
-      (j, a, g, e, sym (getD-take m keys i 0 h) ∙ q)
+  -- a leaf's rank is that of its key
+  leaf-rank : (j a : ℕ) → j < count s → node s j ≡ leaf a → (getD ranks j 0 < m) × (getD keys (getD ranks j 0) 0 ≡ keyOf s j)
+  leaf-rank j a h e = let r = ranked .each j a h e in (r .within, r .at)
 
   keys-fit : Bytes s → (i : ℕ) → i < m → getD keys i 0 < 65536
   unfolding keyOf
   keys-fit bytes i h =
-      let (j, a, g, e, q) = key-leaf i h in
-      omega (arith, q, bytes (4 * j + 1), target-le s w j g, w .sized .few)
-
-  -- a leaf's rank is that of its key
-  leaf-rank : (j a : ℕ) → j < count s → node s j ≡ leaf a → (getD ranks j 0 < m) × (getD keys (getD ranks j 0) 0 ≡ keyOf s j)
-  leaf-rank j a h e = let r = ranked .each j h .is-rank a e in (r .within, r .at)
+      let (j, a, g, e, q) = ranked .all i h in
+      let k = rw q at (leaf-rank j a g e .1) in
+      omega (arith, k, bytes (4 * j + 1), target-le s w j g, w .sized .few)
 
   pub leaf-ranks : LeafRanks s ranks
   leaf-ranks = record { each = λ j h e. let r = leaf-rank j _ h (at-leaf s j (w .good j h) e) .0 in let f = few in omega arith }
@@ -159,21 +145,18 @@ module _ (s : List ℕ) (w : WellFormed s) (keys : List ℕ) (m : ℕ) (ranks : 
     -- a key is a step of its leaf
     key-used : (i : ℕ) → i < m → (u : ℕ) × On (getD words u 0) i
     key-used i h =
-        let (j, a, g, e, q) = key-leaf i h in
-        let (low, at) = leaf-rank j a g e in
-        let same = one-place keys m keys-rise (getD ranks j 0) i low h (at ∙ sym q) in
-        (suc j, bit← (suc j) i (j, refl, g, j, subst (List·Memᴰ j) (sym (first-at (node s) (count s) (tree s w) j g (leaf a) e)) (List·Memᴰ·head refl), same))
+        let (j, a, g, e, q) = ranked .all i h in
+        let f = first-at (node s) (count s) (tree s w) j g (leaf a) e in
+        (suc j, bit← (suc j) i (j, refl, g, j, subst (List·Memᴰ j) (sym f) (List·Memᴰ·head refl), q))
 
-    pub numbered : Bytes s → Numbered (bodyOf s) keys words m
+    pub lists : Bytes s → Lists (bodyOf s) keys words m
     unfolding Numbers
-    numbered bytes = record {
-      coded = record {
+    lists bytes = record {
+      listed = record {
         few = few;
-        keys-long = keyed .long;
+        keys-long = ranked .long;
         words-long = worded .long;
         fit = keys-fit bytes;
-        rising = keys-rise;
-        rest = keyed .rest;
         known = λ u i on. let (k, e, h, j, mj, q) = bit→ u i on in rw (← q) (rank-low k j h mj);
         used = key-used;
       };
@@ -183,6 +166,41 @@ module _ (s : List ℕ) (w : WellFormed s) (keys : List ℕ) (m : ℕ) (ranks : 
       );
     }
 
+-- THE ANSWER, in order
+module _ (s : List ℕ) (w : WellFormed s) (keys : List ℕ) (m : ℕ) (ranks : List ℕ)
+    (keyed : Keyed s (count s) keys m) (sorted : Ranked s (count s) keys m ranks) where
+  fits : m ≤ length keys
+  fits = let f = keyed-few s (count s) keys m keyed in let n = w .sized .few in let l = keyed .long in omega arith
+
+  keys-rise : (i j : ℕ) → i < j → j < m → getD keys i 0 < getD keys j 0
+  keys-rise = rises keys m fits (keyed-ascend s (count s) keys m keyed)
+
+  -- a key is that of a leaf
+  key-leaf : (i : ℕ) → i < m → KeyOfLeaf s (count s) (getD keys i 0)
+  unfolding keysBelow
+  key-leaf i h =
+      let l = length-take-le m keys fits in
+      let key = getD (take m keys) i 0 in
+      let mem = subst (List·Memᴰ key) (keyed .are) (member-at ltb ltb-order 0 (take m keys) i (omega arith)) in
+      let (j, a, g, e, q) = leaf-of s (count s) key (sort→ ltb key (leafKeys s (count s)) mem) in
+      (j, a, g, e, sym (getD-take m keys i 0 h) ∙ q)
+
+  pub ranked-leaves : RankedLeaves s (count s) keys m ranks
+  ranked-leaves = record {
+    long = keyed .long;
+    many = keyed-most s (count s) keys m keyed;
+    each = λ j a h e. sorted .each j h .is-rank a e;
+    all = λ i h.
+        let (j, a, g, e, q) = key-leaf i h in
+        let r = sorted .each j g .is-rank a e in
+        (j, a, g, e, one-place keys m keys-rise (getD ranks j 0) i (r .within) h (r .at ∙ sym q));
+  }
+
+  pub numbered : (words : List ℕ) → Worded s ranks words → Bytes s → Numbered (bodyOf s) keys words m
+  numbered words worded bytes =
+      let L = lists s w keys m ranks ranked-leaves words worded bytes in
+      record { coded = record { listed = L .listed; rising = keys-rise; rest = keyed .rest }; exactly = L .exactly }
+
 -- NO OTHER ANSWER
 ascends : (l : List ℕ) → ((i j : ℕ) → i < j → j < length l → getD l i 0 < getD l j 0) → Ascending ltb l
 ascends [] r = tt
@@ -191,7 +209,7 @@ ascends (x ∷ y ∷ l) r = (lt-ltb x y (r 0 1 (omega arith) (omega arith)), asc
 
 module _ {body keys words : List ℕ} {m : ℕ} (N : Numbered body keys words m) where
   many : length (take m keys) ≡ m
-  many = length-take-le m keys (omega (arith, N .coded .few, N .coded .keys-long))
+  many = length-take-le m keys (omega (arith, N .coded .listed .few, N .coded .listed .keys-long))
 
   at-key : (i : ℕ) → i < m → getD (take m keys) i 0 ≡ getD keys i 0
   at-key i h = getD-take m keys i 0 h
@@ -207,7 +225,8 @@ module _ {body keys words : List ℕ} {m : ℕ} (N : Numbered body keys words m)
     step-there : (u i : ℕ) → On (getD words u 0) i → (j : ℕ) × (j < m') × (getD keys' j 0 ≡ getD keys i 0) × On (getD words' u 0) j
     step-there u i on =
         let x = getD keys i 0 in
-        let (j, h, ea, et, on') = N' .exactly u (x / 256) (x % 256) .0 (N .exactly u (x / 256) (x % 256) .1 (i, N .coded .known u i on, refl, refl, on)) in
+        let step = N .exactly u (x / 256) (x % 256) .1 (i, N .coded .listed .known u i on, refl, refl, on) in
+        let (j, h, ea, et, on') = N' .exactly u (x / 256) (x % 256) .0 step in
         (j, h, omega (arith, ea, et), on')
 
     key-there : (x : ℕ) → List·Memᴰ x (take m keys) → List·Memᴰ x (take m' keys')
@@ -215,10 +234,11 @@ module _ {body keys words : List ℕ} {m : ℕ} (N : Numbered body keys words m)
         let (i, h, e) = mem-at x (take m keys) mem in
         let l = many in
         let g : i < m = omega arith in
-        let (u, on) = N .coded .used i g in
+        let (u, on) = N .coded .listed .used i g in
         let (j, q, d, on') = step-there u i on in
+        let l' = length-take-le m' keys' (omega (arith, N' .coded .listed .few, N' .coded .listed .keys-long)) in
         subst (λ (y : ℕ). List·Memᴰ y (take m' keys')) (getD-take m' keys' j 0 q ∙ d ∙ sym (at-key i g) ∙ e)
-        (member-at ltb ltb-order 0 (take m' keys') j (omega (arith, q, length-take-le m' keys' (omega (arith, N' .coded .few, N' .coded .keys-long)))))
+        (member-at ltb ltb-order 0 (take m' keys') j (omega (arith, q, l')))
 
 module _ {body keys words keys' words' : List ℕ} {m m' : ℕ} (N : Numbered body keys words m) (N' : Numbered body keys' words' m') where
   same-keys : take m keys ≡ take m' keys'
@@ -236,15 +256,15 @@ module _ {body keys words keys' words' : List ℕ} {m m' : ℕ} (N : Numbered bo
   bits-there : (u i : ℕ) → On (getD words u 0) i → On (getD words' u 0) i
   bits-there u i on =
       let (j, h, e, on') = step-there N N' u i on in
-      let g = N .coded .known u i on in
+      let g = N .coded .listed .known u i on in
       let q = one-place keys' m' (N' .coded .rising) j i h (omega (arith, g, same-number)) (e ∙ same-key i) in
       rw q at on'
 
 -- THE THEOREM: what `number_steps` answers is determined
 pub numbered-one : {body keys words keys' words' : List ℕ} {m m' : ℕ} → Numbered body keys words m → Numbered body keys' words' m' → (keys ≡ keys') × (words ≡ words') × (m ≡ m')
 numbered-one {body} {keys} {words} {keys'} {words'} N N' = (
-  ext-getD 0 keys keys' (N .coded .keys-long ∙ sym (N' .coded .keys-long)) (λ i h. same-key N N' i),
-  ext-getD 0 words words' (N .coded .words-long ∙ sym (N' .coded .words-long)) (λ u h.
+  ext-getD 0 keys keys' (N .coded .listed .keys-long ∙ sym (N' .coded .listed .keys-long)) (λ i h. same-key N N' i),
+  ext-getD 0 words words' (N .coded .listed .words-long ∙ sym (N' .coded .listed .words-long)) (λ u h.
       let a = subset-le (getD words u 0) (getD words' u 0) (bits-there N N' u) in
       let b = subset-le (getD words' u 0) (getD words u 0) (bits-there N' N u) in
       omega arith),

@@ -1,5 +1,5 @@
 -- The bytes of a well-formed node: what its kind tells.
-use Prim.Native.Nat.{ℕ, _<_, _≤_}
+use Prim.Native.Nat.{ℕ, zero, suc, _<_, _≤_}
 use mathlib.Core.Path.{_≡_, refl, sym, _∙_, subst}
 use mathlib.Core.Bool.{Bool, true, false, cond, _&&_, false≢true}
 use mathlib.Core.List.{List}
@@ -99,6 +99,20 @@ module _ (s : List ℕ) (k : ℕ) (good : isGood (node s k) ≡ true) where
           let z : bin (opOf (kindOf s k)) (leftOf s k) (rightOf s k) ≡ leaf x = sym (at-bin (big (eqb-false _ 0 q))) ∙ e in
           let y : _≡_ {A = ℕ} 0 1 = cc in
           omega arith
+
+  pub not-bin : kindOf s k < 2 → (o : Op) (l r : ℕ) → node s k ≡ bin o l r → ⊥
+  not-bin h o l r e = go (kindOf s k) refl h
+    where
+      go : (d : ℕ) → kindOf s k ≡ d → d < 2 → ⊥
+      go zero f i = apart (sym (at-dead f) ∙ e)
+        where
+          apart : dead ≡ bin o l r → ⊥
+          apart z = let y : _≡_ {A = ℕ} 0 1 = cc in omega arith
+      go (suc zero) f i = apart (sym (at-leaf f) ∙ e)
+        where
+          apart : {a : ℕ} → leaf a ≡ bin o l r → ⊥
+          apart z = let y : _≡_ {A = ℕ} 0 1 = cc in omega arith
+      go (suc (suc d)) f i = omega arith
 
 -- a leaf's action is a byte of the table, and not 0
 abbrev Acts : List ℕ → ℕ → Node → Type 0

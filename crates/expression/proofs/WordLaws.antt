@@ -1,5 +1,5 @@
 -- A node's word from those of its operands, and the words of all nodes below one.
-use Prim.Native.Nat.{ℕ, zero, suc, _+_, _-_, _/_, _%_, _^_, _<_, _≤_}
+use Prim.Native.Nat.{ℕ, suc, _+_, _-_, _/_, _%_, _^_, _<_, _≤_}
 use mathlib.Core.Path.{_≡_, refl, sym, _∙_}
 use mathlib.Core.Logic.{_⊎_, inl, inr, _↔_, ⊎-elim}
 use mathlib.Core.List.{List, [], _∷_, _++_, List·Memᴰ·head, List·Memᴰ·not-nil, List·Memᴰ·eq-of-singleton, List·Memᴰ·append-cases, Memᴰ·append-left, Memᴰ·append-right}
@@ -10,11 +10,11 @@ use native.Mathlib.Omega.{arith}
 use lib.ListN.{length, getD, set, replicate, length-set, length-replicate}
 use lib.Seq.{getD-set-same, getD-set-other}
 use Rattle.bits.specs.Words.{On, With}
-use Rattle.theory.specs.Nodes.{Op, dead, leaf, bin, first}
+use Rattle.theory.specs.Nodes.{Op, bin, first}
 use Rattle.expression.specs.Table.{kindOf, leftOf, rightOf, node, count, opOf, WellFormed}
 use Rattle.expression.specs.Words.{RanksOf, JoinedWord, Under, itself, by-left, by-right, Filled, Worded}
 use Rattle.expression.proofs.Table.{tree}
-use Rattle.expression.proofs.View.{at-dead, at-leaf, at-bin}
+use Rattle.expression.proofs.View.{at-bin, not-bin}
 use Rattle.expression.proofs.Under.{under-le, all-under}
 use Rattle.expression.proofs.Aims.{zeros}
 use Rattle.expression.proofs.Firsts.{first-dead, first-own, first-left, first-both}
@@ -62,21 +62,7 @@ module _ (s : List ℕ) (w : WellFormed s) (k : ℕ) (h : k < count s) (ranks : 
     | no d ↦ rw (first-both s w k h q d) (both ranks (first (node s) (leftOf s k)) (first (node s) (rightOf s k)) a b x p r (j .both d))
   ]
 
-  -- FILLING. Below a node without operands is no other
-  alone : kindOf s k < 2 → (o : Op) (l r : ℕ) → node s k ≡ bin o l r → ⊥
-  alone q o l r e = go (kindOf s k) refl q
-    where
-      go : (d : ℕ) → kindOf s k ≡ d → d < 2 → ⊥
-      go zero f i = apart (sym (at-dead s k (w .good k h) f) ∙ e)
-        where
-          apart : dead ≡ bin o l r → ⊥
-          apart z = let y : _≡_ {A = ℕ} 0 1 = cc in omega arith
-      go (suc zero) f i = apart (sym (at-leaf s k (w .good k h) f) ∙ e)
-        where
-          apart : {a : ℕ} → leaf a ≡ bin o l r → ⊥
-          apart z = let y : _≡_ {A = ℕ} 0 1 = cc in omega arith
-      go (suc (suc d)) f i = omega arith
-
+  -- FILLING
   module _ (a : List ℕ) (long : length a ≡ 128) where
     at-own : (b : List ℕ) (x : ℕ) → length b ≡ length a → getD (set b (suc k) x) (suc k) 0 ≡ x
     at-own b x e = getD-set-same b (suc k) x 0 (let f = w .sized .few in omega arith)
@@ -84,10 +70,11 @@ module _ (s : List ℕ) (w : WellFormed s) (k : ℕ) (h : k < count s) (ranks : 
     pub filled-leaf : (x : ℕ) → kindOf s k < 2 → RanksOf ranks (first (node s) k) x → Filled s ranks k a (set a (k + 1) x) x
     filled-leaf x q p = rw (add-one k) (record { long = length-set a (suc k) x; own = p; each = λ j u. let e = only u in rw (e, at-own a x refl) p; kept = kept })
       where
+        -- below a node without operands is no other
         only : {j : ℕ} → Under (node s) k j → j ≡ k
         only itself = refl
-        only (by-left e u) = absurd (alone q _ _ _ e)
-        only (by-right e u) = absurd (alone q _ _ _ e)
+        only (by-left e u) = absurd (not-bin s k (w .good k h) q _ _ _ e)
+        only (by-right e u) = absurd (not-bin s k (w .good k h) q _ _ _ e)
 
         kept : (u : ℕ) → (getD (set a (suc k) x) u 0 ≡ getD a u 0) ⊎ ((j : ℕ) × Under (node s) k j × (u ≡ suc j))
         kept u = elim (ℕ-discrete u (suc k)) [

@@ -1,11 +1,13 @@
 -- Where every node leads, from the root down: the climb of document 01, each node's answer taken from its parent's.
 use Prim.Native.Nat.{ℕ, _+_, _<_}
 use mathlib.Core.Path.{_≡_}
+use mathlib.Core.Bool.{true}
+use mathlib.Core.Logic.{_≢_}
 use mathlib.Core.List.{List}
 use lib.ListN.{length, getD, set}
 use Rattle.theory.specs.Nodes.{Op, op-sum, op-product, op-star, Node, bad, dead, leaf, bin, after}
 use Rattle.theory.specs.ExpressionCharts.{vertexOf}
-use Rattle.expression.specs.Table.{node, count}
+use Rattle.expression.specs.Table.{node, isGood, count}
 
 -- the vertex that is reached after node j
 unfoldable pub targetOf : List ℕ → ℕ → ℕ
@@ -28,3 +30,11 @@ aim k (bin o l r) a = set (set a l (aimLeft o k r (getD a k 0))) r (getD a k 0)
 pub record Targets (s : List ℕ) (a : List ℕ) : Type 0 where
   pub long : length a ≡ 128
   pub each : (j : ℕ) → j < count s → getD a j 0 ≡ targetOf s j
+
+-- the turn of node k where 255 stands for no target yet: it is well formed and has one, and its operands are two nodes
+-- that have none; b is a with theirs
+pub record Turn (s : List ℕ) (k : ℕ) (a b : List ℕ) : Type 0 where
+  pub good : isGood (node s k) ≡ true
+  pub aimed : getD a k 0 ≢ 255
+  pub fresh : (o : Op) (l r : ℕ) → node s k ≡ bin o l r → (getD a l 0 ≡ 255) × (getD a r 0 ≡ 255) × (l ≢ r)
+  pub is : b ≡ aim k (node s k) a

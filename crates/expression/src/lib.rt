@@ -11,18 +11,21 @@ use nodes::check_nodes;
 use nodes::length_ok;
 use nodes::node_count;
 use ranks::collect_keys;
+use ranks::list_leaves;
 use ranks::rank_nodes;
 use report::Place;
 use report::Stage;
 use report::Written;
 use targets::find_targets;
+use targets::try_find_targets;
 use words::count_transitions;
 use words::first_words;
 ghost use mathlib.Core.Path.{_≡_};
-ghost use lib.ListN.{length};
+ghost use lib.ListN.{length, replicate};
 ghost use Rattle.expression.specs.Table.{checkOf};
+ghost use Rattle.expression.specs.Targets.{Targets};
 ghost use Rattle.expression.specs.Body.{bodyOf, writtenOf, bufferOf};
-ghost use Rattle.chart.specs.Numbered.{Numbered};
+ghost use Rattle.chart.specs.Numbered.{Lists, Numbered};
 
 // The checks of an expression's nodes: 10, 11, 12.
 pub fn check(nodes: &[u8]) -> Stage
@@ -34,8 +37,49 @@ pub fn check(nodes: &[u8]) -> Stage
     check_nodes(nodes)
 }
 
-// Numbers the steps of the expression's chart: the keys, their number, and a word for each vertex. The
-// check and the writing of the chart both go by them.
+// The same checks, and where every node of nodes that pass leads, into an array of 255: found in one pass. Only a
+// refusal needs `check`, which finds its place.
+pub fn check_with_targets(nodes: &[u8], targets: &mut [u8; 128]) -> Stage
+    requires { ⌜ now targets ≡ replicate 128 255 ⌝ }
+    ensures { λ r. ⌜ (r ≡ checkOf (now (nodes .entry)))
+        × (r ≡ Stage.Passed → Targets (now (nodes .entry)) (now (targets .exit))) ⌝ }
+{
+    if length_ok(nodes) {
+        if try_find_targets(nodes, node_count(nodes), targets) {
+            return Stage::Passed;
+        }
+    }
+    let stage = check(nodes);
+    let Stage::Passed = stage else {
+        return stage;
+    };
+    *targets = find_targets(nodes, node_count(nodes));
+    stage
+}
+
+// Lists the steps of the expression's chart as its leaves come: the keys, their number, and a word for each vertex,
+// which has no bit before. The check goes by them.
+pub fn list_steps<'a>(
+    nodes: &'a [u8],
+    targets: &'a [u8; 128],
+    keys: &mut [usize; 128],
+    words: &mut [u64; 128],
+) -> usize
+    requires { ⌜ (checkOf (now nodes) ≡ Stage.Passed)
+        × Targets (now nodes) (now targets)
+        × (length (now keys) ≡ 128)
+        × (now words ≡ replicate 128 0) ⌝ }
+    ensures { λ r. ⌜ Lists (bodyOf (now (nodes .entry))) (now (keys .exit)) (now (words .exit)) r ⌝ }
+{
+    let n = node_count(nodes);
+    let mut ranks = [0u8; 128];
+    let m = list_leaves(nodes, n, targets, keys, &mut ranks);
+    first_words(nodes, n, &ranks, words);
+    m
+}
+
+// Numbers the steps of the expression's chart: the same in order, each once, so that there is one answer. The writing
+// of the chart and the place of a refusal go by them.
 pub fn number_steps(nodes: &[u8], keys: &mut [usize; 128], words: &mut [u64; 128]) -> usize
     requires { ⌜ checkOf (now nodes) ≡ Stage.Passed ⌝ }
     ensures { λ r. ⌜ Numbered (bodyOf (now (nodes .entry))) (now (keys .exit)) (now (words .exit)) r ⌝ }
@@ -44,6 +88,7 @@ pub fn number_steps(nodes: &[u8], keys: &mut [usize; 128], words: &mut [u64; 128
     let targets = find_targets(nodes, n);
     let m = collect_keys(nodes, n, &targets, keys);
     let ranks = rank_nodes(nodes, n, &targets, keys, m);
+    *words = [0u64; 128];
     first_words(nodes, n, &ranks, words);
     m
 }

@@ -27,7 +27,7 @@ pub(crate) fn length_ok(nodes: &[u8]) -> bool
 }
 
 // 11 of one node: its fields fit its kind, and its operands are lower.
-fn node_ok(nodes: &[u8], k: usize) -> bool
+pub(crate) fn node_ok(nodes: &[u8], k: usize) -> bool
     requires { ⌜ Sized (now nodes) × (k < count (now nodes)) ⌝ }
     ensures { λ r. ⌜ r ≡ isGood (node (now (nodes .entry)) k) ⌝ }
 {

@@ -1,13 +1,16 @@
-// Where every node leads.
+// Where every node leads, of nodes that are known to be a tree, or while it is found out whether they are.
 use super::nodes::PRODUCT;
 use super::nodes::SUM;
 use super::nodes::kind_of;
 use super::nodes::left_of;
+use super::nodes::node_ok;
 use super::nodes::right_of;
 ghost use mathlib.Core.Path.{_≡_};
+ghost use mathlib.Core.Bool.{true};
 ghost use Prim.Native.Nat.{_<_, _≤_};
-ghost use Rattle.expression.specs.Table.{node, count, WellFormed, opOf};
-ghost use Rattle.expression.specs.Targets.{aimLeft, aim, Targets};
+ghost use lib.ListN.{replicate};
+ghost use Rattle.expression.specs.Table.{node, count, Sized, WellFormed, opOf};
+ghost use Rattle.expression.specs.Targets.{aimLeft, aim, Targets, Turn};
 
 // The vertex after the left operand of node k: document 01's climb from there goes to the right
 // operand of a product, to a star itself, and on from a sum.
@@ -53,4 +56,47 @@ pub(crate) fn find_targets(nodes: &[u8], n: usize) -> [u8; 128]
         aim_operands(nodes, k, &mut targets);
     }
     targets
+}
+
+// Where the operands of node k lead, of nodes that may be no tree. 255 is no target: a node has it until a node above
+// has had it as an operand. True only where node k is well formed and has a target, and its operands are two nodes that
+// have none.
+fn try_aim_operands(nodes: &[u8], k: usize, targets: &mut [u8; 128]) -> bool
+    requires { ⌜ Sized (now nodes) × (k < count (now nodes)) ⌝ }
+    ensures { λ r. ⌜ (r ≡ true → Turn (now (nodes .entry)) k (now (targets .entry)) (now (targets .exit))) ⌝ }
+{
+    if !node_ok(nodes, k) {
+        return false;
+    }
+    let own = targets[k];
+    if own == 255 {
+        return false;
+    }
+    let kind = kind_of(nodes, k);
+    if kind < SUM {
+        return true;
+    }
+    let left = left_of(nodes, k);
+    let right = right_of(nodes, k);
+    let fresh = (targets[left] == 255) & (targets[right] == 255) & (left != right);
+    targets[left] = left_target(kind, k, right, own);
+    targets[right] = own;
+    fresh
+}
+
+// Where every node leads, into an array of 255. True only where the nodes are a tree, so that 11 and 12 pass.
+pub(crate) fn try_find_targets(nodes: &[u8], n: usize, targets: &mut [u8; 128]) -> bool
+    requires { ⌜ Sized (now nodes) × (n ≡ count (now nodes)) × (now targets ≡ replicate 128 255) ⌝ }
+    ensures { λ r. ⌜ (r ≡ true
+        → WellFormed (now (nodes .entry)) × Targets (now (nodes .entry)) (now (targets .exit))) ⌝ }
+{
+    targets[n - 1] = 0;
+    let mut k = n;
+    while 0 < k {
+        k -= 1;
+        if !try_aim_operands(nodes, k, targets) {
+            return false;
+        }
+    }
+    true
 }

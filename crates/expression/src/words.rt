@@ -7,7 +7,7 @@ use super::nodes::left_of;
 use super::nodes::right_of;
 ghost use mathlib.Core.Path.{_≡_};
 ghost use Prim.Native.Nat.{_<_};
-ghost use lib.ListN.{length};
+ghost use lib.ListN.{length, replicate};
 ghost use Rattle.theory.specs.Nodes.{first};
 ghost use Rattle.expression.specs.Table.{kindOf, node, count, WellFormed};
 ghost use Rattle.expression.specs.Words.{LeafRanks, RanksOf, JoinedWord, Filled, Worded};
@@ -38,8 +38,23 @@ fn joined_word(kind: usize, left: u64, right: u64) -> u64
     bits::bit_or(left, right)
 }
 
+// Fills the word of a node without operands, at its vertex; that word.
+fn fill_leaf<'a>(nodes: &'a [u8], ranks: &'a [u8; 128], j: usize, words: &mut [u64; 128]) -> u64
+    requires { ⌜ WellFormed (now nodes)
+        × (j < count (now nodes))
+        × LeafRanks (now nodes) (now ranks)
+        × (kindOf (now nodes) j < 2)
+        × (length (now words) ≡ 128) ⌝ }
+    ensures { λ r. ⌜ Filled (now (nodes .entry)) (now (ranks .entry)) j (now (words .entry)) (now (words .exit)) r ⌝ }
+{
+    let own = leaf_word(nodes, ranks, j);
+    words[j + 1] = own;
+    own
+}
+
 // Fills the words of node k and of the nodes below it, each from those of its operands, at the vertex of each; the word
-// of node k. The recursion ends because operands are lower.
+// of node k. The recursion ends because operands are lower. An operand without operands is filled here: a call for it
+// would cost more than its word.
 fn fill_words<'a>(nodes: &'a [u8], ranks: &'a [u8; 128], k: usize, words: &mut [u64; 128]) -> u64
     requires { ⌜ WellFormed (now nodes)
         × (k < count (now nodes))
@@ -49,30 +64,39 @@ fn fill_words<'a>(nodes: &'a [u8], ranks: &'a [u8; 128], k: usize, words: &mut [
 {
     let kind = kind_of(nodes, k);
     if kind < SUM {
-        let own = leaf_word(nodes, ranks, k);
-        words[k + 1] = own;
-        return own;
+        return fill_leaf(nodes, ranks, k, words);
     }
     let left = left_of(nodes, k);
-    let first = fill_words(nodes, ranks, left, words);
+    let first = if kind_of(nodes, left) < SUM {
+        fill_leaf(nodes, ranks, left, words)
+    } else {
+        fill_words(nodes, ranks, left, words)
+    };
     let right = right_of(nodes, k);
-    let second = fill_words(nodes, ranks, right, words);
+    let second = if kind_of(nodes, right) < SUM {
+        fill_leaf(nodes, ranks, right, words)
+    } else {
+        fill_words(nodes, ranks, right, words)
+    };
     let word = joined_word(kind, first, second);
     words[k + 1] = word;
     word
 }
 
-// The words of the vertices: vertex k + 1 has that of node k, and the end has no bit. Every node is below the root.
+// The words of the vertices, from no bits: vertex k + 1 has that of node k, and the end has no bit. Every node is below
+// the root.
 pub(crate) fn first_words<'a>(
     nodes: &'a [u8],
     n: usize,
     ranks: &'a [u8; 128],
     words: &mut [u64; 128],
 )
-    requires { ⌜ WellFormed (now nodes) × (n ≡ count (now nodes)) × LeafRanks (now nodes) (now ranks) ⌝ }
+    requires { ⌜ WellFormed (now nodes)
+        × (n ≡ count (now nodes))
+        × LeafRanks (now nodes) (now ranks)
+        × (now words ≡ replicate 128 0) ⌝ }
     ensures { λ _. ⌜ Worded (now (nodes .entry)) (now (ranks .entry)) (now (words .exit)) ⌝ }
 {
-    *words = [0u64; 128];
     fill_words(nodes, ranks, n - 1, words);
 }
 

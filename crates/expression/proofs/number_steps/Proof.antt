@@ -1,8 +1,9 @@
 -- `expression::number_steps` meets its contract. The keys, the ranks among them and the words are those of the law.
+use mathlib.Core.Path.{refl}
 use native.Mathlib.Omega.{arith}
 use borrow.Author.Needs.{needs}
 use Rattle.expression.proofs.Table.{passed→well-formed}
-use Rattle.expression.proofs.Numbers.{leaf-ranks, numbered}
+use Rattle.expression.proofs.Numbers.{leaf-ranks, ranked-leaves, numbered}
 use Rattle.expression.proofs.number_steps.Statement.{statement}
 use Rattle.expression.proofs.number_steps.Tie as tie
 
@@ -27,21 +28,23 @@ rank-nodes-requires c κs =
 
 first-words-requires : tie.Need-first-words-requires
 first-words-requires c κs =
-    let rn = c .before .before in
-    let ck = rn .before .before .before in
-    let nc = ck .before .before .before .before in
-    let w = passed→well-formed _ (nc .before .before .pre) in
-    let n = nc .node-count .ensures in
-    (w, n, leaf-ranks _ w _ _ _ (rw n at (ck .collect-keys .ensures)) (rw n at (rn .rank-nodes .ensures)))
-
-returns : tie.Need-returns
-returns c =
     let rn = c .before .before .before in
     let ck = rn .before .before .before in
     let nc = ck .before .before .before .before in
     let w = passed→well-formed _ (nc .before .before .pre) in
     let n = nc .node-count .ensures in
-    numbered _ w _ _ _ (rw n at (ck .collect-keys .ensures)) (rw n at (rn .rank-nodes .ensures)) _ (c .first-words .ensures) (λ i. omega (arith, nc .before .shared-slice-known .given i))
+    (w, n, leaf-ranks _ w _ _ _ (ranked-leaves _ w _ _ _ (rw n at (ck .collect-keys .ensures)) (rw n at (rn .rank-nodes .ensures))), refl)
+
+returns : tie.Need-returns
+returns c =
+    let rn = c .before .before .before .before in
+    let ck = rn .before .before .before in
+    let nc = ck .before .before .before .before in
+    let w = passed→well-formed _ (nc .before .before .pre) in
+    let n = nc .node-count .ensures in
+    let bytes = nc .before .shared-slice-known .given in
+    numbered _ w _ _ _ (rw n at (ck .collect-keys .ensures)) (rw n at (rn .rank-nodes .ensures)) _
+    (c .first-words .ensures) (λ i. omega (arith, bytes i))
 
 pub number-steps-spec : {M : Type 1} → statement M
 number-steps-spec =

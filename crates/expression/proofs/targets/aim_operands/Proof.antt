@@ -12,7 +12,7 @@ kind-of-requires c κs = node-at _ (c .before .pre .0) _ (c .before .pre .1)
 returns : tie.Need-returns
 returns c =
     let p = c .before .before .before .pre in
-    aim-none _ (p .0) _ (p .1) _ (omega (arith, c .before .kind-of .ensures, c .if1 .taken))
+    aim-none _ _ (p .0 .good _ (p .1)) _ (omega (arith, c .before .kind-of .ensures, c .if1 .taken))
 
 left-of-requires : tie.Need-left-of-requires
 left-of-requires c κs =
@@ -40,7 +40,8 @@ returns-2 : tie.Need-returns-2
 returns-2 c =
     let p = c .before .before .before .before .before .before .before .pre in
     let m = c .before .before .before .before .before .kind-of .ensures in
-    aim-both _ (p .0) _ (p .1) _ _ _ _ _ (omega arith) m (c .before .before .before .left-of .ensures .0) (c .before .before .right-of .ensures .0) (c .left-target .ensures)
+    aim-both _ _ (p .0 .good _ (p .1)) _ _ _ _ _ (omega arith) m
+    (c .before .before .before .left-of .ensures .0) (c .before .before .right-of .ensures .0) (c .left-target .ensures)
 
 pub aim-operands-spec : {M : Type 1} → statement M
 aim-operands-spec =

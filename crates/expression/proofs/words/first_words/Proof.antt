@@ -11,7 +11,7 @@ fill-words-requires : tie.Need-fill-words-requires
 fill-words-requires c κs = search needs
 
 returns : tie.Need-returns
-returns c = let p = c .before .before .before .before .pre in filled-all _ (p .0) _ _ _ _ (p .1) (c .fill-words .ensures)
+returns c = let p = c .before .before .before .pre in filled-all _ (p .0) _ _ _ _ (p .1) (rw (p .3) at (c .fill-words .ensures))
 
 pub first-words-spec : {M : Type 1} → statement M
 first-words-spec = tie.close (tie.spec sub-fill-words fill-words-requires returns)
