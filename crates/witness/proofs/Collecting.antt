@@ -9,7 +9,7 @@ use lib.ListN.{getD, length, replicate, length-replicate}
 use Rattle.bits.specs.declared.sets.Set.{Set}
 use Rattle.bits.specs.Bits.{Bytes, HighestByte}
 use Rattle.bits.specs.Sets.{emptySet, Members, Union}
-use Rattle.bits.specs.Tables.{HasRow, putRow, TableOf, Gains}
+use Rattle.bits.specs.Tables.{HasRow, putRow, TableOf, Gains, When}
 use Rattle.bits.proofs.Members.{⊎-map, none}
 use Rattle.bits.proofs.Gains.{put-long, put-here, put-other, gains-as, gains-then, blank-table, table-of-as, table-of-gains}
 use Rattle.theory.specs.Charts.{Steps, Any, Branch}
@@ -20,9 +20,9 @@ use Rattle.chart.proofs.Order.{begin-high}
 use Rattle.chart.proofs.Relations.{steps-formed}
 use Rattle.witness.specs.declared.tables.Taken.{Taken}
 use Rattle.witness.specs.declared.tables.Outgoing.{Outgoing}
-use Rattle.witness.specs.Given.{Entry, Enters, EntersFrom, NoSteps, FirstOf, OutgoingOf, Collected, Room}
+use Rattle.witness.specs.Given.{Entry, Enters, EntersFrom, NoSteps, FirstOf, OutgoingOf, Collected, Room, LevelsFit}
 use Rattle.witness.specs.Given.{IsBranch, IsEntry, RunLeads, Took, LevelsOf}
-use Rattle.witness.proofs.Seen.{Seen, seen-none, seen-first, seen-either, leaves-v, seen-step, step-seen}
+use Rattle.witness.proofs.Seen.{Seen, seen-none, seen-first, seen-either, leaves-v, seen-step, step-seen, before, new, cases}
 
 -- THE TRANSITIONS OF ONE VERTEX
 -- none
@@ -257,11 +257,65 @@ module _ {S : Steps} {u : ℕ} {out : Outgoing} (R : OutgoingOf S u out) where
     of-entered = entered-more fit (C .of-entered) G;
   }
 
+-- ONE BY ONE: none is seen at first, and all in the end
+pub singly-none : {b labels next branches entries entered : List ℕ} → Collected NoSteps next branches entries entered
+    → Collected (Seen b labels 0 0) next branches entries entered
+singly-none = collected-as (λ u l w. (λ e. absurd e, λ s. absurd (seen-none s)))
+
+pub singly-all : {b labels next branches entries entered : List ℕ} {n : ℕ} → n ≡ countOf b
+    → Collected (Seen b labels 0 n) next branches entries entered → Collected (StepsOf b labels) next branches entries entered
+singly-all e = collected-as (λ u l w. (
+  λ s. record { at = s .at; within = s .within; leaves = s .leaves; enters = s .enters; holds = record { is = s .holds .is } },
+  λ s. record {
+    at = s .at;
+    within = s .within;
+    leaves = s .leaves;
+    enters = s .enters;
+    holds = record { from = omega arith; below = omega (arith, e, s .within); is = s .holds .is };
+  },
+))
+
+-- one transition more, from f to t with the label l
+module _ {b labels : List ℕ} (i : ℕ) (high : i < countOf b) {f l t : ℕ}
+    (ef : f ≡ fromOf b i) (el : l ≡ getD labels i 0) (et : t ≡ toOf b i) where
+  past : {u k w : ℕ} → Seen b labels 0 i u k w → Seen b labels 0 (i + 1) u k w
+  past = before i (omega arith) high ef el et
+
+  this : {u k w : ℕ} → u ≡ f → k ≡ l → w ≡ t → Seen b labels 0 (i + 1) u k w
+  this = new i (omega arith) high ef el et
+
+  past-or-this : {u k w : ℕ} → Seen b labels 0 (i + 1) u k w → Seen b labels 0 i u k w ⊎ ((u ≡ f) × (k ≡ l) × (w ≡ t))
+  past-or-this = cases i (omega arith) high ef el et
+
+  pub singly-more : {next branches entries entered next₁ branches₁ entries₁ entered₁ : List ℕ}
+      → 2 * f + 2 ≤ length next → 2 * f + 2 ≤ length branches → 2 * f + 2 ≤ length entries → 2 * l + 2 ≤ length entered
+      → Collected (Seen b labels 0 i) next branches entries entered → Gains (λ (x y : ℕ). (x ≡ f) × (y ≡ t)) next next₁
+      → Gains (When (l ≡ 0) f t) branches branches₁ → Gains (When (0 < l) f t) entries entries₁
+      → Gains (When (0 < l) l f) entered entered₁ → Collected (Seen b labels 0 (i + 1)) next₁ branches₁ entries₁ entered₁
+  singly-more n m k j C N B E D = record {
+    of-next = table-of-as (λ x y g. (
+      ⊎-elim (λ (a, s). (a, past s)) (λ (p, q). (l, this p refl q)),
+      λ (a, s). ⊎-map (λ o. (a, o)) (λ (p, q, r). (p, r)) (past-or-this s),
+    )) (table-of-gains (C .of-next) N (λ x y h (p, q). omega (arith, h, p, n)));
+    of-branches = table-of-as (λ x y g. (
+      ⊎-elim past (λ (z, p, q). this p (sym z) q),
+      λ s. ⊎-map (λ o. o) (λ (p, q, r). (sym q, p, r)) (past-or-this s),
+    )) (table-of-gains (C .of-branches) B (λ x y h (z, p, q). omega (arith, h, p, m)));
+    of-entries = table-of-as (λ x y g. (
+      ⊎-elim (λ (a, z, s). (a, z, past s)) (λ (z, p, q). (l, z, this p refl q)),
+      λ (a, z, s). ⊎-map (λ o. (a, z, o)) (λ (p, q, r). (omega (arith, z, q), p, r)) (past-or-this s),
+    )) (table-of-gains (C .of-entries) E (λ x y h (z, p, q). omega (arith, h, p, k)));
+    of-entered = table-of-as (λ x y g. (
+      ⊎-elim (λ (z, w, s). (z, w, past s)) (λ (z, p, q). (omega (arith, z, p), t, this q p refl)),
+      λ (z, w, s). ⊎-map (λ o. (z, w, o)) (λ (p, q, r). (omega (arith, z, q), q, p)) (past-or-this s),
+    )) (table-of-gains (C .of-entered) D (λ x y h (z, p, q). omega (arith, h, p, j)));
+  }
+
 -- room for n vertices and the levels up to top, in tables of zeros
 pub room-by : (size levels : ℕ) {n top : ℕ} → n ≤ size → top < levels
-    → Room n top (replicate (2 * size) 0) (replicate (2 * size) 0) (replicate (2 * size) 0) (replicate (2 * levels) 0)
+    → Room NoSteps n top (replicate (2 * size) 0) (replicate (2 * size) 0) (replicate (2 * size) 0) (replicate (2 * levels) 0)
 room-by size levels {n} {top} i j = record {
-  nothing = collected-none size levels;
+  collected = collected-none size levels;
   for-next = omega (arith, i, long);
   for-branches = omega (arith, i, long);
   for-entries = omega (arith, i, long);
@@ -270,6 +324,24 @@ room-by size levels {n} {top} i j = record {
   where
     long : length (replicate {A = ℕ} (2 * size) 0) ≡ 2 * size
     long = length-replicate {A = ℕ} (2 * size) 0
+
+-- room for each label
+pub levels-room : {S : Steps} {n top : ℕ} {labels next branches entries entered : List ℕ} → HighestByte labels top
+    → Room S n top next branches entries entered → LevelsFit labels entered
+levels-room H R i h = omega (arith, H .above i, R .for-levels)
+
+-- other transitions in tables of the same length
+pub room-filled : {S T : Steps} {n top : ℕ} {next branches entries entered next₁ branches₁ entries₁ entered₁ : List ℕ}
+    → length next₁ ≡ length next → length branches₁ ≡ length branches → length entries₁ ≡ length entries
+    → length entered₁ ≡ length entered → Collected T next₁ branches₁ entries₁ entered₁ → Room S n top next branches entries entered
+    → Room T n top next₁ branches₁ entries₁ entered₁
+room-filled a b c d C R = record {
+  collected = C;
+  for-next = omega (arith, a, R .for-next);
+  for-branches = omega (arith, b, R .for-branches);
+  for-entries = omega (arith, c, R .for-entries);
+  for-levels = omega (arith, d, R .for-levels);
+}
 
 -- the highest of some bytes is one
 pub top-below : {bytes : List ℕ} {top : ℕ} → Bytes bytes → HighestByte bytes top → top < 256

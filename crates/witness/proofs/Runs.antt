@@ -1,5 +1,5 @@
 -- Runs of transitions: what they lead to comes into a set.
-use mathlib.Core.Path.{_≡_, sym, _∙_, ap, subst}
+use mathlib.Core.Path.{_≡_, refl, sym, _∙_, ap, subst}
 use mathlib.Core.Logic.{_⊎_, inl, inr, ⊎-elim, by-cases, _↔_}
 use mathlib.Core.List.{List}
 use Prim.Native.Nat.{ℕ, _+_, _-_, _*_, _/_, _%_, _≤_, _<_}
@@ -8,16 +8,17 @@ use native.Mathlib.Nat.{le-refl}
 use native.Mathlib.Omega.{arith}
 use lib.ListN.{length, getD}
 use Rattle.bits.specs.Bits.{Bytes}
-use Rattle.bits.specs.Packed.{Packed}
+use Rattle.bits.specs.Packed.{fourAt, Packed}
 use Rattle.bits.specs.declared.sets.Set.{Set}
-use Rattle.bits.specs.Sets.{Has, Ones}
+use Rattle.bits.specs.Sets.{Has, Ones, emptySet}
 use Rattle.bits.specs.Tables.{Gains}
 use Rattle.bits.proofs.Words.{no-bit}
-use Rattle.bits.proofs.Members.{⊎-map, zero-off}
-use Rattle.bits.proofs.Gains.{gains-none, gains-then}
+use Rattle.bits.proofs.Members.{⊎-map, zero-off, none}
+use Rattle.bits.proofs.Gains.{gains-none, gains-as, gains-then}
 use Rattle.chart.specs.Bodies.{verticesOf, toOf}
 use Rattle.witness.specs.declared.tables.Taken.{Taken}
-use Rattle.witness.specs.Given.{Run, IsBranch, IsEntry, RunLeads, WithTargets, Took, LevelsOf}
+use Rattle.witness.specs.Given.{Run, IsBranch, IsEntry, HasLabel, RunLeads, WithTargets, Took, LevelsOf}
+use Rattle.witness.specs.Given.{RunSteps, RunLevels, RunTargets}
 
 -- where a transition of a run stands, and what it leads to
 module _ {b ones : List ℕ} {a e : ℕ} (R : Run b ones a e) {i : ℕ} (h : i < e) where
@@ -73,6 +74,10 @@ module _ {b : List ℕ} {P : ℕ → Type 0} {a e : ℕ} {s : Set} where
     targets = targets-then (T .from) l (T .targets) W;
   }
 
+  -- with another property that follows
+  pub took-as : {Q : ℕ → Type 0} {r : Taken} → ((i : ℕ) → P i → Q i) → Took b P a e s r → Took b Q a e s r
+  took-as f T = record { from = T .from; to = T .to; each = λ i p q. f i (T .each i p q); targets = T .targets }
+
   -- one part, and then another
   pub took-then : {q r : Taken} → Took b P a e s q → Took b P (q .at) e (q .set) r → Took b P a e s r
   took-then {r = r} T U = took-more (r .at) T (U .from) (U .to) (U .each) (U .targets)
@@ -105,6 +110,52 @@ levels-one labels i h el G H = gains-then G H (λ x y g. (
       (λ f. inl (z, (j, p, omega arith, e))),
 ))
 
+-- of one run and then another, and of a run with one label
+pub levels-then : (labels : List ℕ) {a i e u : ℕ} {t q r : List ℕ} → a ≤ i → i ≤ e → Gains (LevelsOf labels a i u) t q
+    → Gains (LevelsOf labels i e u) q r → Gains (LevelsOf labels a e u) t r
+levels-then labels {i = i} l h G H = gains-then G H (λ x y g. (
+  ⊎-elim (λ (z, (j, p, k, e)). (z, (j, p, omega arith, e))) (λ (z, (j, p, k, e)). (z, (j, omega arith, k, e))),
+  λ (z, (j, p, k, e)). by-cases (decLt j i) (λ m. inl (z, (j, p, m, e))) (λ m. inr (z, (j, omega arith, k, e))),
+))
+
+pub levels-run : (labels : List ℕ) {a e u l : ℕ} {t r : List ℕ} → a < e → ((i : ℕ) → a ≤ i → i < e → HasLabel labels l i)
+    → Gains (λ (x y : ℕ). (x ≡ l) × (y ≡ u)) t r → Gains (LevelsOf labels a e u) t r
+levels-run labels {a} h f = gains-as (λ x y g. (
+  λ (p, q). (q, (a, le-refl a, h, f a (le-refl a) h ∙ sym p)),
+  λ (q, (i, m, n, z)). (sym z ∙ f i m n, q),
+))
+
+-- the lowest of two numbers' bytes, and the rest
+digit : (a b x y : ℕ) → a < 256 → b < 256 → a + 256 * x ≡ b + 256 * y → (a ≡ b) × (x ≡ y)
+digit a b x y h k e =
+    let p : (a + 256 * x) % 256 ≡ a = omega (arith, h) in
+    let q : (b + 256 * y) % 256 ≡ b = omega (arith, k) in
+    let z = sym p ∙ ap (λ (t : ℕ). t % 256) e ∙ q in
+    (z, omega (arith, e, z))
+
+-- eight labels as two numbers of four bytes each
+pub eight-same : (labels : List ℕ) {at l : ℕ} → Bytes labels → l < 256 → fourAt labels at ≡ 16843009 * l
+    → fourAt labels (at + 4) ≡ 16843009 * l → (i : ℕ) → at ≤ i → i < at + 8 → HasLabel labels l i
+eight-same labels {at} {l} B h e f i p q = by-cases (decLt i (at + 4))
+    (λ m. four-same at e i p m)
+    (λ m. four-same (at + 4) f i (omega arith) (omega arith))
+  where
+    four-same : (at : ℕ) → fourAt labels at ≡ 16843009 * l → (i : ℕ) → at ≤ i → i < at + 4 → HasLabel labels l i
+    four-same at e i p q =
+        let b0 = B at in
+        let b1 = B (at + 1) in
+        let b2 = B (at + 2) in
+        let x = getD labels (at + 1) 0 in
+        let y = getD labels (at + 2) 0 in
+        let z = getD labels (at + 3) 0 in
+        let (z0, e1) = digit _ _ (x + 256 * (y + 256 * z)) (l + 256 * (l + 256 * l)) b0 h (omega (arith, e)) in
+        let (z1, e2) = digit _ _ (y + 256 * z) (l + 256 * l) b1 h e1 in
+        let (z2, z3) = digit _ _ _ _ b2 h e2 in
+        by-cases (ℕ-discrete i at) (λ k. rw k z0)
+        (λ k0. by-cases (ℕ-discrete i (at + 1)) (λ k. rw k z1)
+        (λ k1. by-cases (ℕ-discrete i (at + 2)) (λ k. rw k z2)
+        (λ k2. let k : i ≡ at + 3 = omega (arith, p, q, k0, k1, k2) in rw k z3)))
+
 -- eight labels that are 0 as one word
 pub eight-branches : {labels : List ℕ} {i r : ℕ} → Bytes labels → Packed labels i 8 r → r ≡ 0
     → (j : ℕ) → i ≤ j → j < i + 8 → IsBranch labels j
@@ -112,3 +163,41 @@ eight-branches {labels} {i} {r} B P z j l h = no-bit 8 (getD labels j 0) (B j) (
     let e : i + (8 * (j - i) + k) / 8 ≡ j = omega arith in
     let f : (8 * (j - i) + k) % 8 ≡ k = omega arith in
     zero-off (8 * (j - i) + k) (rw z at (P .exactly (8 * (j - i) + k) (omega arith) .1 (rw (e, f) on))))
+
+-- THE RUN OF ONE LEVEL: it gets on
+pub run-on : (labels : List ℕ) {b : List ℕ} {l i e : ℕ} {s : Set} {r : Taken} → l ≡ getD labels i 0 → i < e
+    → Took b (HasLabel labels l) i e s r → (r .at < e → ¬ HasLabel labels l (r .at)) → i < r .at
+run-on labels {i = i} {r = r} el h T f = by-cases (decLt i (r .at)) (λ g. g) (λ g.
+    let z : r .at ≡ i = omega (arith, g, T .from) in
+    absurd (f (omega arith) (rw z (sym el))))
+
+-- a branch brings no entry
+pub one-branch : (b labels : List ℕ) {i m w : ℕ} → IsBranch labels i → 0 < m → ¬ RunSteps b labels i (i + 1) m w
+one-branch b labels {i} {m} z h (j, p, q, e, f) =
+    let y : j ≡ i = omega arith in
+    let x : getD labels i 0 ≡ m = rw y at e in
+    omega arith
+
+-- its level comes into one table, what it leads to into the other
+module _ (labels : List ℕ) {b : List ℕ} {l i e : ℕ} {r : Taken} (T : Took b (HasLabel labels l) i e emptySet r)
+    (some : 0 < l) (on : i < r .at) where
+  label-of : {m w : ℕ} → RunSteps b labels i (r .at) m w → m ≡ l
+  label-of (j, p, q, e, f) = sym e ∙ T .each j p q
+
+  pub run-levels : {a c : List ℕ} → Gains (λ (x y : ℕ). (x ≡ l / 128) × (y ≡ l % 128)) a c
+      → Gains (RunLevels b labels i (r .at)) a c
+  run-levels = gains-as (λ x y g. (
+    λ (p, q). let z : l ≡ 128 * x + y = omega arith in
+        (omega arith, toOf b i, (i, le-refl i, on, T .each i (le-refl i) on ∙ z, refl)),
+    λ (h, w, s). let z = label-of s in (omega arith, omega arith),
+  ))
+
+  pub run-targets : {a c : List ℕ} → Gains (λ (x y : ℕ). (x ≡ l) × Has (r .set) y) a c
+      → Gains (RunTargets b labels i (r .at)) a c
+  run-targets = gains-as (λ x y g. (
+    λ (z, h). ⊎-elim
+        (λ k. absurd (none y k))
+        (λ (j, p, q, et). (omega arith, (j, p, q, T .each j p q ∙ sym z, et)))
+        (T .targets .exactly y .0 h),
+    λ (h, s). (label-of s, T .targets .exactly y .1 (inr (s .0, s .1, s .2, s .4))),
+  ))

@@ -10,12 +10,11 @@ use lib.ListN.{length, length-map}
 use borrow.Author.Tests.{lt-ltb, le-ltb, ne-eqb}
 use Rattle.bits.specs.Bits.{Bytes}
 use Rattle.bits.specs.Counts.{bitsBelow}
-use Rattle.bits.specs.declared.sets.Set.{Set}
 use Rattle.bits.specs.Words.{On}
-use Rattle.bits.specs.Sets.{halfOf, Empty, sizeOf}
+use Rattle.bits.specs.Sets.{halfOf, sizeOf}
 use Rattle.bits.specs.Tables.{rowOf, HasRow, TableOf}
 use Rattle.bits.proofs.Counts.{bit-uncounted}
-use Rattle.bits.proofs.Members.{low-has, high-has}
+use Rattle.bits.proofs.Members.{zero-off}
 use Rattle.theory.specs.Orders.{Pair, AllLoops}
 use Rattle.theory.specs.Tests.{Decides, rowPairs, pairs}
 use Rattle.theory.proofs.Pairs.{pairs→, pairs←, pairs-distinct, distinct-map}
@@ -48,17 +47,14 @@ row-size a l =
     high : (i : ℕ) → i < 64 → inSet a l (64 + i) ≡ eqb (rowOf a l .hi / 2 ^ i % 2) 1
     high i h = let e : (64 + i) % 64 ≡ i = omega arith in rw (le-ltb (64 + i) 64 (omega arith), e)
 
--- an empty set has none
+-- 0 has none
 bits-none : (x n : ℕ) → ((k : ℕ) → k < n → ¬ On x k) → bitsBelow x n ≡ 0
 unfolding bitsBelow
 bits-none x zero f = refl
 bits-none x (suc n) f = bit-uncounted x n (f n (omega arith)) ∙ bits-none x n (λ k h. f k (omega arith))
 
-pub empty-size : (s : Set) → Empty s → sizeOf s ≡ 0
-empty-size s E =
-    let a = bits-none (s .lo) 64 (λ k h on. E k (low-has s k h on)) in
-    let b = bits-none (s .hi) 64 (λ k h on. E (64 + k) (high-has s k h on)) in
-    omega arith
+pub zero-bits : (x : ℕ) → x ≡ 0 → bitsBelow x 64 ≡ 0
+zero-bits x e = bits-none x 64 (λ k h on. zero-off k (rw e at on))
 
 -- n and the members of the sets from l on are the members of all sets
 pub record CountedTo (a : List ℕ) (l n : ℕ) : Type 0 where

@@ -89,9 +89,9 @@ pub record Collected (S : Steps) (next branches entries entered : List ℕ) : Ty
   pub of-entries : TableOf (Entry S) entries
   pub of-entered : TableOf (Enters S) entered
 
--- what is collected has room: tables with nothing in them, with a set for each vertex and for each level up to top
-pub record Room (n top : ℕ) (next branches entries entered : List ℕ) : Type 0 where
-  pub nothing : Collected NoSteps next branches entries entered
+-- these transitions in tables with a set for each vertex and for each level up to top
+pub record Room (S : Steps) (n top : ℕ) (next branches entries entered : List ℕ) : Type 0 where
+  pub collected : Collected S next branches entries entered
   pub for-next : 2 * n ≤ length next
   pub for-branches : 2 * n ≤ length branches
   pub for-entries : 2 * n ≤ length entries
@@ -110,6 +110,10 @@ IsBranch labels i = getD labels i 0 ≡ 0
 
 abbrev pub IsEntry : List ℕ → ℕ → Type 0
 IsEntry labels i = 0 < getD labels i 0
+
+-- transition i has this label
+abbrev pub HasLabel : List ℕ → ℕ → ℕ → Type 0
+HasLabel labels l i = getD labels i 0 ≡ l
 
 -- one of the run leads to w
 abbrev pub RunLeads : List ℕ → ℕ → ℕ → ℕ → Type 0
@@ -160,3 +164,15 @@ EntryLevels S v x y = Loop S v (128 * x + y)
 -- an entry of v of level l leads to w
 abbrev pub EntryTargets : Steps → ℕ → ℕ → ℕ → Type 0
 EntryTargets S v l w = (0 < l) × S v l w
+
+-- one of the run has the label l and leads to w
+abbrev pub RunSteps : List ℕ → List ℕ → ℕ → ℕ → ℕ → ℕ → Type 0
+RunSteps b labels a e l w = (i : ℕ) × (a ≤ i) × (i < e) × HasLabel labels l i × (toOf b i ≡ w)
+
+-- the run has an entry of the level that stands in set x as y
+abbrev pub RunLevels : List ℕ → List ℕ → ℕ → ℕ → ℕ → ℕ → Type 0
+RunLevels b labels a e x y = (0 < 128 * x + y) × (w : ℕ) × RunSteps b labels a e (128 * x + y) w
+
+-- an entry of the run of level l leads to w
+abbrev pub RunTargets : List ℕ → List ℕ → ℕ → ℕ → ℕ → ℕ → Type 0
+RunTargets b labels a e l w = (0 < l) × RunSteps b labels a e l w

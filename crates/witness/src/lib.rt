@@ -22,27 +22,28 @@ ghost use Rattle.bits.specs.Bits.{HighestByte};
 ghost use Rattle.chart.specs.Bodies.{verticesOf};
 ghost use Rattle.chart.specs.Checks.{checkOf};
 ghost use Rattle.chart.specs.Leaving.{Begins};
+ghost use Rattle.chart.specs.Steps.{StepsOf};
 ghost use Rattle.witness.specs.Given.{Given, Room};
 ghost use Rattle.witness.specs.Labellings.{labelledOf};
 
-// 31 to 35, and the number of loops, where 30 passes. The tables have nothing yet, but room for each vertex and level.
+// 31 to 35, and the number of loops, where 30 passes, by the tables of the transitions.
 fn check_by(
     body: &[u8],
     labels: &[u8],
     begins: &[usize; 129],
     top: usize,
     next: &mut [u64],
-    branches: &mut [u64],
-    entries: &mut [u64],
+    branches: &[u64],
+    entries: &[u64],
     high: &mut [u64],
 ) -> Labelled
     requires { ⌜ Given (now body) (now labels) (now begins)
         × HighestByte (now labels) top
-        × Room (verticesOf (now body)) top (now next) (now branches) (now entries) (now high) ⌝ }
+        × Room (StepsOf (now body) (now labels)) (verticesOf (now body)) top
+        (now next) (now branches) (now entries) (now high) ⌝ }
     ensures { λ r. ⌜ r ≡ labelledOf (now (body .entry)) (now (labels .entry)) ⌝ }
 {
     let n = byte(body, 0);
-    collect(body, labels, begins, n, next, branches, entries, high);
     let p = unreached(body, next);
     if p < n {
         return Labelled::Refused(Place::Unreached(p));
@@ -62,26 +63,35 @@ fn check_by(
     }
 }
 
-// The same with tables for 32 vertices and the levels below 32: to clear large ones is much of a small file's work.
+// The same with tables for 16 vertices and the levels below 16: to clear large ones is much of a small file's work.
 fn check_small(body: &[u8], labels: &[u8], begins: &[usize; 129], top: usize) -> Labelled
     requires { ⌜ Given (now body) (now labels) (now begins)
         × HighestByte (now labels) top
-        × (verticesOf (now body) ≤ 32)
-        × (top < 32) ⌝ }
+        × (verticesOf (now body) ≤ 16)
+        × (top < 16) ⌝ }
     ensures { λ r. ⌜ r ≡ labelledOf (now (body .entry)) (now (labels .entry)) ⌝ }
 {
-    let mut next = [0u64; 64];
-    let mut branches = [0u64; 64];
-    let mut entries = [0u64; 64];
-    let mut high = [0u64; 64];
+    let mut next = [0u64; 32];
+    let mut branches = [0u64; 32];
+    let mut entries = [0u64; 32];
+    let mut high = [0u64; 32];
+    collect(
+        body,
+        labels,
+        begins,
+        &mut next,
+        &mut branches,
+        &mut entries,
+        &mut high,
+    );
     check_by(
         body,
         labels,
         begins,
         top,
         &mut next,
-        &mut branches,
-        &mut entries,
+        &branches,
+        &entries,
         &mut high,
     )
 }
@@ -95,14 +105,23 @@ fn check_large(body: &[u8], labels: &[u8], begins: &[usize; 129], top: usize) ->
     let mut branches = [0u64; 256];
     let mut entries = [0u64; 256];
     let mut high = [0u64; 512];
+    collect(
+        body,
+        labels,
+        begins,
+        &mut next,
+        &mut branches,
+        &mut entries,
+        &mut high,
+    );
     check_by(
         body,
         labels,
         begins,
         top,
         &mut next,
-        &mut branches,
-        &mut entries,
+        &branches,
+        &entries,
         &mut high,
     )
 }
@@ -116,7 +135,7 @@ pub fn check(body: &[u8], labels: &[u8], begins: &[usize; 129]) -> Labelled
         return Labelled::Refused(Place::LabelsLength(labels.len()));
     }
     let top = highest_byte(labels);
-    if (byte(body, 0) <= 32) & (top < 32) {
+    if (byte(body, 0) <= 16) & (top < 16) {
         return check_small(body, labels, begins, top);
     }
     check_large(body, labels, begins, top)

@@ -35,7 +35,7 @@ byte-requires c κs = let w = well-formed _ (c .before .before .before .before .
 check-small-requires : tie.Need-check-small-requires
 check-small-requires c κs =
     let r = c .before in
-    let (few, low) = decides-and (decides-leb (r .byte .result) 32) (decides-ltb (r .before .highest-byte .result) 32) .0 (c .if2 .taken) in
+    let (few, low) = decides-and (decides-leb (r .byte .result) 16) (decides-ltb (r .before .highest-byte .result) 16) .0 (c .if2 .taken) in
     (given r, r .before .highest-byte .ensures .1, omega (arith, r .byte .ensures .0, few), low)
 
 returns-2 : tie.Need-returns-2

@@ -34,7 +34,7 @@ Steps r = StepsOf (Body r) (Labels r)
 given : (r : tie.After-byte) → Given (Body r) (Labels r) (start r .args .begins .now)
 given r = start r .pre .0
 
-room : (r : tie.After-byte) → Room (verticesOf (Body r)) (start r .args .top) (start r .args .next .now) (start r .args .branches .now)
+room : (r : tie.After-byte) → Room (Steps r) (verticesOf (Body r)) (start r .args .top) (start r .args .next .now) (start r .args .branches .now)
     (start r .args .entries .now) (start r .args .high .now)
 room r = start r .pre .2
 
@@ -46,27 +46,23 @@ bytes r k = omega (arith, r .before .before .before .before .before .shared-slic
 
 -- what 31 finds
 abbrev begun : tie.After-unreached → tie.After-byte
-begun u = u .before .before .before .before .before .before .before .before .before .before .before .before .before .before .before
+begun u = u .before .before
 
 unreached : (u : tie.After-unreached) → FirstUnreached (Body (begun u)) (Labels (begun u)) (u .unreached .result)
-unreached u = u .unreached .ensures _
-    (u .before .before .before .before .before .before .before .before .before .before .collect .ensures .of-next)
+unreached u = u .unreached .ensures _ (room (begun u) .collected .of-next)
 
 -- that it passes, and what 32 finds
 abbrev searched : tie.After-cycle → tie.After-unreached
-searched k = k .before .before .before .before
+searched k = k .before .before .before
 
 all-reached : (k : tie.After-cycle) → verticesOf (Body (begun (searched k))) ≤ searched k .unreached .result
-all-reached k = omega (arith, begun (searched k) .byte .ensures .0, k .before .before .before .if1 .left)
-
-abbrev filled : tie.After-cycle → tie.After-collect
-filled k = searched k .before .before .before .before .before .before .before .before .before .before
+all-reached k = omega (arith, begun (searched k) .byte .ensures .0, k .before .before .if1 .left)
 
 on-cycle : (k : tie.After-cycle)
     → First (OnBranchCycle (Steps (begun (searched k)))) 0 (verticesOf (Body (begun (searched k)))) (k .cycle .result)
 on-cycle k =
     let r = begun (searched k) in
-    cycle-first (formed r) (filled k .collect .ensures .of-branches) (rw (r .byte .ensures .0) at (k .cycle .ensures .first))
+    cycle-first (formed r) (room r .collected .of-branches) (rw (r .byte .ensures .0) at (k .cycle .ensures .first))
 
 -- the levels
 highest : (k : tie.After-cycle) → HighestByte (Labels (begun (searched k))) (start (begun (searched k)) .args .top)
@@ -78,37 +74,11 @@ top-low k = top-below (bytes (begun (searched k))) (highest k)
 byte-requires : tie.Need-byte-requires
 byte-requires c κs = let w = well-formed _ (c .before .before .before .before .before .before .pre .0 .passed) .header .long in omega arith
 
-collect-requires : tie.Need-collect-requires
-collect-requires c κs =
-    let r = c .before .before .before .before in
-    let R = room r in
-    let n = r .byte .ensures .0 in (
-      given r,
-      n,
-      R .nothing,
-      omega (arith, n, R .for-next),
-      omega (arith, n, R .for-branches),
-      omega (arith, n, R .for-entries),
-      λ i h. omega (arith, start r .pre .1 .above i, R .for-levels),
-    )
-
 unreached-requires : tie.Need-unreached-requires
-unreached-requires c κs = (
-  given (c .before .before .before .before .before .before .before .before .before .before .before .before .before .before) .passed,
-  c .before .before .before .before .before .before .before .before .before .collect .ensures .of-next .whole,
-)
+unreached-requires c κs = (given (c .before) .passed, room (c .before) .collected .of-next .whole)
 
 same-length : tie.Need-same-length
 same-length c = search needs
-
-same-length-2 : tie.Need-same-length-2
-same-length-2 c = search needs
-
-same-length-3 : tie.Need-same-length-3
-same-length-3 c = search needs
-
-same-length-4 : tie.Need-same-length-4
-same-length-4 c = search needs
 
 returns : tie.Need-returns
 returns c =
@@ -118,30 +88,15 @@ returns c =
 
 cycle-requires : tie.Need-cycle-requires
 cycle-requires c κs =
-    let r = begun (c .before .before .before) in
+    let r = begun (c .before .before) in
     let n = r .byte .ensures .0 in (
-      c .before .before .before .before .before .before .before .before .before .before .before .before .before .collect .ensures
-          .of-branches .whole,
+      room r .collected .of-branches .whole,
       omega (arith, formed r .header .vertices-high, n),
-      omega (
-        arith,
-        n,
-        room r .for-next,
-        c .before .before .before .before .before .before .before .before .before .before .before .before .next .given,
-      ),
+      omega (arith, n, room r .for-next),
     )
 
-same-length-5 : tie.Need-same-length-5
-same-length-5 c = search needs
-
-same-length-6 : tie.Need-same-length-6
-same-length-6 c = search needs
-
-same-length-7 : tie.Need-same-length-7
-same-length-7 c = search needs
-
-same-length-8 : tie.Need-same-length-8
-same-length-8 c = search needs
+same-length-2 : tie.Need-same-length-2
+same-length-2 c = search needs
 
 returns-2 : tie.Need-returns-2
 returns-2 c =
@@ -154,60 +109,40 @@ returns-2 c =
 count-loops-requires : tie.Need-count-loops-requires
 count-loops-requires c κs =
     let k = c .before .before .before .before in
-    let E = filled k .collect .ensures .of-entered in
+    let E = room (begun (searched k)) .collected .of-entered in
     (E .whole, top-low k, none-higher E (highest k))
 
 lowest-levels-requires : tie.Need-lowest-levels-requires
 lowest-levels-requires c κs =
-    let k = c .before .before .before .before .before .before .before in (
-      omega (arith, room (begun (searched k)) .for-levels, searched k .before .before .before .high .given),
-      top-low k,
-      none-higher
-          (filled k .collect .ensures .of-entered) (highest k),
-      refl,
-    )
+    let k = c .before .before .before .before .before .before .before in
+    let R = room (begun (searched k)) in
+    (R .for-levels, top-low k, none-higher (R .collected .of-entered) (highest k), refl)
 
 join-later-requires : tie.Need-join-later-requires
 join-later-requires c κs =
-    let k = c .before .before .before .before .before .before .before .before .before in (
-      omega (arith, room (begun (searched k)) .for-levels, searched k .before .before .before .high .given),
-      top-low k,
-      none-higher
-          (filled k .collect .ensures .of-entered) (highest k),
-    )
+    let k = c .before .before .before .before .before .before .before .before .before in
+    let R = room (begun (searched k)) in
+    (R .for-levels, top-low k, none-higher (R .collected .of-entered) (highest k))
 
 loops-check-requires : tie.Need-loops-check-requires
 loops-check-requires c κs =
-    let none = c .before .before .before .before .before .before .before .before .before .before .before .before .before .before in
+    let none = c .before .before .before .before .before .before .before .before .before .before .before .before in
     let k = none .before .before .before in
     let C = k .cycle .ensures in
-    let tables = filled k .collect .ensures in
-    let r = begun (searched k) in (
+    let r = begun (searched k) in
+    let R = room r in
+    let tables = R .collected in (
       given r,
       record {
         of-branches = tables .of-branches;
-        branches-room = omega
-            (arith, room r .for-branches, searched k .before .before .before .before .before .before .before .branches .given);
-        after-room = omega (
-          arith,
-          room r .for-next,
-          C .long,
-          searched k .before .before .before .before .before .before .before .before .before .next .given,
-        );
+        branches-room = R .for-branches;
+        after-room = omega (arith, R .for-next, C .long);
         of-after = rw (r .byte .ensures .0) at (C .known (omega (arith, C .first .within, none .if2 .left)));
         acyclic = acyclic (formed r) (on-cycle k) (omega (arith, r .byte .ensures .0, none .if2 .left));
         of-entries = tables .of-entries;
-        of-low = c .before .before .before .before .before .before .before .before .before .lowest-levels .ensures _ _ (given r .passed)
-            (bytes r) (tables .of-entered);
-        of-levels = levels-of (formed r) (bytes r) (tables .of-entered)
-            (c .before .before .before .before .before .before .before .join-later .ensures);
-        levels-fit = λ i h. omega (
-          arith,
-          highest k .above i,
-          room r .for-levels,
-          searched k .before .before .before .high .given,
-          c .before .before .before .before .before .before .before .join-later .ensures .long,
-        );
+        of-low = c .before .before .before .before .before .before .before .lowest-levels .ensures _ _ (given r .passed) (bytes r) (tables .of-entered);
+        of-levels = levels-of (formed r) (bytes r) (tables .of-entered) (c .before .before .before .before .before .join-later .ensures);
+        levels-fit = λ i h. omega (arith, highest k .above i, R .for-levels, c .before .before .before .before .before .join-later .ensures .long);
       },
     )
 
@@ -217,31 +152,16 @@ enum-known-place c = search needs
 enum-told : tie.Need-enum-told
 enum-told c = search needs
 
-same-length-9 : tie.Need-same-length-9
-same-length-9 c =
-    c .before .before .before .before .before .before .before .before .before .before .before .before .before .before .before .before
-    .before .before .before .before .before .cycle .ensures .long ∙ searched
-    (c .before .before .before .before .before .before .before .before .before .before .before .before .before .before .before
-    .before .before .before .before .before .before) .before .before .before .before .before .before .before .before .before .next
-    .given
+same-length-3 : tie.Need-same-length-3
+same-length-3 c = search needs
 
-same-length-10 : tie.Need-same-length-10
-same-length-10 c =
-    searched (c .before .before .before .before .before .before .before .before .before .before .before .before .before .before .before
-    .before .before .before .before .before .before) .before .before .before .before .before .before .before .branches .given
-
-same-length-11 : tie.Need-same-length-11
-same-length-11 c =
-    searched (c .before .before .before .before .before .before .before .before .before .before .before .before .before .before .before
-    .before .before .before .before .before .before) .before .before .before .before .before .entries .given
-
-same-length-12 : tie.Need-same-length-12
-same-length-12 c = search needs
+same-length-4 : tie.Need-same-length-4
+same-length-4 c = search needs
 
 returns-3 : tie.Need-returns-3
 returns-3 c =
     let l = c .before .before .before in
-    let none = l .before .before .before .before .before .before .before .before .before .before .before .before .before .before .before in
+    let none = l .before .before .before .before .before .before .before .before .before .before .before .before .before in
     let k = none .before .before .before in
     let u = searched k in
     let r = begun u in
@@ -249,56 +169,34 @@ returns-3 c =
     (omega (arith, r .byte .ensures .0, none .if2 .left))
     (subst (LoopsSaid _) (c .before .place .given .1) (l .loops-check .ensures))
 
-same-length-13 : tie.Need-same-length-13
-same-length-13 c =
-    c .before .before .before .before .before .before .before .before .before .before .before .before .before .before .before .before
-    .before .before .before .before .cycle .ensures .long ∙ searched
-    (c .before .before .before .before .before .before .before .before .before .before .before .before .before .before .before
-    .before .before .before .before .before) .before .before .before .before .before .before .before .before .before .next .given
+same-length-5 : tie.Need-same-length-5
+same-length-5 c = search needs
 
-same-length-14 : tie.Need-same-length-14
-same-length-14 c =
-    searched (c .before .before .before .before .before .before .before .before .before .before .before .before .before .before .before
-    .before .before .before .before .before) .before .before .before .before .before .before .before .branches .given
-
-same-length-15 : tie.Need-same-length-15
-same-length-15 c =
-    searched (c .before .before .before .before .before .before .before .before .before .before .before .before .before .before .before
-    .before .before .before .before .before) .before .before .before .before .before .entries .given
-
-same-length-16 : tie.Need-same-length-16
-same-length-16 c = search needs
+same-length-6 : tie.Need-same-length-6
+same-length-6 c = search needs
 
 returns-4 : tie.Need-returns-4
 returns-4 c =
     let l = c .before .before in
-    let none = l .before .before .before .before .before .before .before .before .before .before .before .before .before .before .before in
+    let none = l .before .before .before .before .before .before .before .before .before .before .before .before .before in
     let k = none .before .before .before in
     let u = searched k in
     let r = begun u in
     answer-passed _ _ (formed r) (bytes r) (given r .long) (unreached u) (all-reached k) (on-cycle k)
     (omega (arith, r .byte .ensures .0, none .if2 .left))
     (subst (LoopsSaid _) (c .enum-told .given .1) (l .loops-check .ensures))
-    (l .before .before .before .before .before .before .before .before .before .before .before .before .before .count-loops .ensures _ _
-    (given r .passed) (bytes r) (filled k .collect .ensures .of-entered))
+    (l .before .before .before .before .before .before .before .before .before .before .before .count-loops .ensures _ _ (given r .passed) (bytes r) (room r .collected .of-entered))
 
 pub check-by-spec : {M : Type 1} → statement M
 check-by-spec =
     tie.close
     (tie.spec
     byte-requires
-    collect-requires
     unreached-requires
     same-length
-    same-length-2
-    same-length-3
-    same-length-4
     returns
     cycle-requires
-    same-length-5
-    same-length-6
-    same-length-7
-    same-length-8
+    same-length-2
     returns-2
     count-loops-requires
     lowest-levels-requires
@@ -306,13 +204,9 @@ check-by-spec =
     loops-check-requires
     enum-known-place
     enum-told
-    same-length-9
-    same-length-10
-    same-length-11
-    same-length-12
+    same-length-3
+    same-length-4
     returns-3
-    same-length-13
-    same-length-14
-    same-length-15
-    same-length-16
+    same-length-5
+    same-length-6
     returns-4)

@@ -1,6 +1,4 @@
 use native.Mathlib.Omega.{arith}
-use Rattle.theory.proofs.Tests.{decides-and}
-use Rattle.witness.proofs.Sizes.{empty-size}
 use borrow.Author.Needs.{needs}
 use Rattle.witness.proofs.tables.sizes.Statement.{statement}
 use Rattle.witness.proofs.tables.sizes.Tie as tie
@@ -20,33 +18,39 @@ add-row-or-empty c = search needs
 row-or-empty-requires-2 : tie.Need-row-or-empty-requires-2
 row-or-empty-requires-2 c κs = search needs
 
-is-empty-requires : tie.Need-is-empty-requires
-is-empty-requires c κs = search needs
+few-bits-requires : tie.Need-few-bits-requires
+few-bits-requires c κs = search needs
 
-is-empty-requires-2 : tie.Need-is-empty-requires-2
-is-empty-requires-2 c κs = search needs
-
-returns : tie.Need-returns
-returns c =
-    let (e, f) = decides-and (c .before .before .is-empty .ensures) (c .before .is-empty2 .ensures) .0 (c .if1 .taken) in
-    let p = empty-size _ (rw (c .before .before .before .before .row-or-empty .ensures) at e) in
-    let q = empty-size _ (rw (c .before .before .before .row-or-empty2 .ensures) at f) in
-    (omega (arith, p, q), omega arith)
-
-count-requires : tie.Need-count-requires
-count-requires c κs = search needs
-
-count-requires-2 : tie.Need-count-requires-2
-count-requires-2 c κs = search needs
+few-bits-requires-2 : tie.Need-few-bits-requires-2
+few-bits-requires-2 c κs = search needs
 
 add-result : tie.Need-add-result
 add-result c = search needs
 
-returns-2 : tie.Need-returns-2
-returns-2 c =
-    let p = rw (c .before .before .before .before .before .before .row-or-empty .ensures) at (c .before .count .ensures .0) in
-    let q = rw (c .before .before .before .before .before .row-or-empty2 .ensures) at (c .count2 .ensures .0) in
-    (omega (arith, p, q), omega (arith, c .before .count .ensures .1, c .count2 .ensures .1))
+few-bits-requires-3 : tie.Need-few-bits-requires-3
+few-bits-requires-3 c κs = search needs
+
+add-result-2 : tie.Need-add-result-2
+add-result-2 c = search needs
+
+few-bits-requires-4 : tie.Need-few-bits-requires-4
+few-bits-requires-4 c κs = search needs
+
+add-result-3 : tie.Need-add-result-3
+add-result-3 c = search needs
+
+returns : tie.Need-returns
+returns c =
+    let f = c .before .before .before in
+    let a = f .before .before .row-or-empty .ensures in
+    let b = f .before .row-or-empty2 .ensures in
+    let p = rw a at (f .few-bits .ensures .0) in
+    let q = rw a at (c .before .before .few-bits2 .ensures .0) in
+    let r = rw b at (c .before .few-bits3 .ensures .0) in
+    let s = rw b at (c .few-bits4 .ensures .0) in (
+      omega (arith, p, q, r, s),
+      omega (arith, f .few-bits .ensures .1, c .before .before .few-bits2 .ensures .1, c .before .few-bits3 .ensures .1, c .few-bits4 .ensures .1),
+    )
 
 pub sizes-spec : {M : Type 1} → statement M
 sizes-spec =
@@ -57,10 +61,11 @@ sizes-spec =
     mul-row-or-empty-2
     add-row-or-empty
     row-or-empty-requires-2
-    is-empty-requires
-    is-empty-requires-2
-    returns
-    count-requires
-    count-requires-2
+    few-bits-requires
+    few-bits-requires-2
     add-result
-    returns-2)
+    few-bits-requires-3
+    add-result-2
+    few-bits-requires-4
+    add-result-3
+    returns)
