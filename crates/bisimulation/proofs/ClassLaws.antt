@@ -128,9 +128,9 @@ sorted-more kind {n} {k} {r} {t} S l W = record {
 pub classed : {keys words class relation : List ℕ} {m rows : ℕ} → Stepped keys words m rows relation → Classes relation rows class
     → Classed keys class m
 classed S C = record {
-  steps-few = S .coded .few;
-  keys-long = S .coded .keys-long;
-  fit = S .coded .fit;
+  steps-few = S .listed .few;
+  keys-long = S .listed .keys-long;
+  fit = S .listed .fit;
   targets = λ k l. omega (arith, S .targets k l, S .few);
   class-long = C .long;
   class-few = λ u l. C .few u;

@@ -6,8 +6,6 @@ use Prim.Native.Nat.{ℕ, _+_, _/_, _%_, _^_, _≤_, _<_}
 use native.Mathlib.Decide.{ℕ-discrete, decLt}
 use native.Mathlib.Omega.{arith}
 use lib.ListN.{getD, replicate}
-use Rattle.theory.specs.Relations.{related, all-pass}
-use Rattle.report.specs.declared.Stage.the-variants.{Passed}
 use Rattle.bits.specs.Bits.{Bytes}
 use Rattle.bits.specs.declared.sets.Set.{Set}
 use Rattle.bits.specs.Words.{On}
@@ -15,20 +13,20 @@ use Rattle.bits.specs.Sets.{Has, emptySet, Empty, Members, Intersection, Differ
 use Rattle.bits.specs.Tables.{rowOf, HasRow, putRow, Table, InSome}
 use Rattle.bits.proofs.Members.{zero-off, none, has?}
 use Rattle.bits.proofs.Gains.{put-long, put-here, put-other}
-use Rattle.chart.specs.Bodies.{verticesOf, startOf, actionOf, toOf, WellFormed}
+use Rattle.chart.specs.Bodies.{verticesOf, actionOf, toOf, WellFormed}
 use Rattle.chart.specs.Leaving.{Begins}
+use Rattle.chart.specs.Numbered.{Lists}
 use Rattle.chart.proofs.Checks.{well-formed}
 use Rattle.chart.proofs.Order.{at-mid, between}
 use Rattle.bisimulation.specs.declared.clearing.Latest.{Latest}
 use Rattle.bisimulation.specs.declared.clearing.Matches.{Matches}
-use Rattle.bisimulation.specs.Answers.{Related, RelationFits, Passes, CheckedAnswer, NumberedChart}
+use Rattle.bisimulation.specs.Answers.{RelationFits, Passes, PassOutside, NumberedChart}
 use Rattle.bisimulation.specs.Suspects.{Stretch, Column, Into, Acting, UsedBy, Used, Match, MatchedIn}
 use Rattle.bisimulation.specs.Runs.{MatchedAlike}
 use Rattle.bisimulation.specs.Suspects.{Clear, Able, Knows, Walked, Cleared, SameEnd, Refusable, Gathered}
-use Rattle.bisimulation.specs.Classes.{Unsuspected}
 use Rattle.bisimulation.specs.Pairs.{StepTables, Sought}
 use Rattle.bisimulation.proofs.RunLaws.{same-match}
-use Rattle.bisimulation.proofs.StepLaws.{pair-passes, step-fits, match-low}
+use Rattle.bisimulation.proofs.StepLaws.{numbered-lists, pair-passes, step-fits, match-low}
 
 -- `matching`: x and y are the target and the action that the code reads
 pub match-read : (into acting body : List ℕ) (i r : ℕ) {x y : ℕ} → x ≡ toOf body i → y ≡ actionOf body i
@@ -187,42 +185,42 @@ pub step-tables : {keys words body relation e into acting : List ℕ} {m vertice
 step-tables {keys} {e = e} {m = m} N I A =
     record { formed = well-formed e (N .passes); keys = keys; m = m; numbered = N .numbered; spread = I; acts = A }
 
--- what the tables let pass does pass, of every chart whose steps are so numbered
-module _ {into acting words body e relation : List ℕ} (B : Bytes body) (W : WellFormed body)
-    (T : StepTables into acting words e relation) where
-  clear-passes : {u v : ℕ} → Clear into acting words body u v → Passes e body relation u v
-  clear-passes C = pair-passes (T .numbered) (C .ends)
-      (λ k on. let (j, g, p, M) = C .forth k on in (j, g, p, step-fits B W T j k g M))
-      (λ j h f. let (k, on, M) = C .back j h f in (k, on, step-fits B W T j k h M))
+-- what the tables let pass does pass, of every chart with these steps
+pub clear-passes : {into acting keys words body e relation : List ℕ} {m u v : ℕ} → Bytes body → WellFormed body
+    → Lists e keys words m → Into relation keys m into → Acting keys m acting → Clear into acting words body u v
+    → Passes e body relation u v
+clear-passes B W L I A C = pair-passes L (C .ends)
+    (λ k on. let (j, g, p, M) = C .forth k on in (j, g, p, step-fits B W I A j k g M))
+    (λ j h f. let (k, on, M) = C .back j h f in (k, on, step-fits B W I A j k h M))
 
-  -- where no vertex is a suspect
-  pub all-clear : {suspects : Set} → Unsuspected into acting words body relation suspects → Empty suspects
-      → Related relation (startOf e) (startOf body) → CheckedAnswer e body relation Passed
-  all-clear S f z = (related, all-pass z (λ u v r. clear-passes (S u v r (f v))), refl)
+-- what the search leaves out passes, of every chart whose steps are so numbered
+module _ {into acting words body e relation users : List ℕ} {rows used : ℕ} (B : Bytes body) (W : WellFormed body)
+    (T : StepTables into acting words e relation) (few : rows ≤ 128) (U : Table 64 (UsedBy words rows) users)
+    (all : Used words rows used) where
+  cleared-clear : {u v : ℕ} → u < rows → Cleared into acting users used body u v → Clear into acting words body u v
+  cleared-clear {u} {v} l C = record {
+    ends = C .ends;
+    forth =
+        λ k on. let n = T .numbered .coded .listed .known u k on in
+        C .forth k (all u k l on) (U .exactly k u (omega (arith, T .numbered .coded .listed .few)) (omega arith) .1 (l, on));
+    back = λ i h f.
+        let (k, M, r) = C .back i h f in
+        let n = match-low B W (T .spread) (T .acts) i k h M in
+        (k, U .exactly k u (omega (arith, T .numbered .coded .listed .few)) (r .below) .0 r .1, M);
+  }
 
-  module _ {users : List ℕ} {rows used : ℕ} (few : rows ≤ 128) (U : Table 64 (UsedBy words rows) users) (all : Used words rows used) where
-    cleared-clear : {u v : ℕ} → u < rows → Cleared into acting users used body u v → Clear into acting words body u v
-    cleared-clear {u} {v} l C = record {
-      ends = C .ends;
-      forth =
-          λ k on. let n = T .numbered .coded .known u k on in
-          C .forth k (all u k l on) (U .exactly k u (omega (arith, T .numbered .coded .few)) (omega arith) .1 (l, on));
-      back = λ i h f.
-          let (k, M, r) = C .back i h f in
-          let n = match-low B W T i k h M in
-          (k, U .exactly k u (omega (arith, T .numbered .coded .few)) (r .below) .0 r .1, M);
-    }
-
-    pub sought : {columns table : List ℕ} {suspects : Set} → verticesOf e ≡ rows → Unsuspected into acting words body relation suspects
-        → Table 128 (Column relation suspects) columns → Gathered columns into acting users used body (verticesOf body) table
-        → RelationFits e body relation → Sought into acting words table body e relation
-    sought {suspects = suspects} q S C G F = record {
-      tables = T;
-      fits = F;
-      given = λ u v m t. C .exactly v u (omega (arith, W .header .vertices-high)) (t .below) .0 (G .given u v m t) .1;
-      others = λ u v r n.
-          let (l, m) = F .inside u v r in
-          by-cases (has? suspects v)
-          (λ h. clear-passes (cleared-clear (omega arith) (G .others u v m (C .exactly v u (omega (arith, W .header .vertices-high)) (omega arith) .1 (h, r)) n)))
-          (λ h. clear-passes (S u v r h));
-    }
+  pub sought : {columns table : List ℕ} {suspects : Set} → verticesOf e ≡ rows → PassOutside e body relation suspects
+      → Table 128 (Column relation suspects) columns → Gathered columns into acting users used body (verticesOf body) table
+      → RelationFits e body relation → Sought into acting words table body e relation
+  sought {suspects = suspects} q S C G F = record {
+    tables = T;
+    fits = F;
+    given = λ u v m t. C .exactly v u (omega (arith, W .header .vertices-high)) (t .below) .0 (G .given u v m t) .1;
+    others = λ u v r n.
+        let (l, m) = F .inside u v r in
+        by-cases (has? suspects v)
+        (λ h.
+        let g = C .exactly v u (omega (arith, W .header .vertices-high)) (omega arith) .1 (h, r) in
+        clear-passes B W (numbered-lists (T .numbered)) (T .spread) (T .acts) (cleared-clear (omega arith) (G .others u v m g n)))
+        (S u v r);
+  }

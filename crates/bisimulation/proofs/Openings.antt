@@ -1,4 +1,4 @@
--- 40 to 42: the code's answer is that of the test, 43 to 45 come after it, and where a chart has the numbers have one answer.
+-- 40 to 42: the code's answer is that of the test, and 43 to 45 come after it; what is known where a chart has the steps.
 use mathlib.Core.Path.{_≡_, refl, sym, _∙_, ap}
 use mathlib.Core.Bool.{Bool, true, false, cond}
 use mathlib.Core.List.{List}
@@ -9,20 +9,24 @@ use lib.ListN.{length}
 use borrow.Author.Tests.{ltb-true, ltb-false, eqb-true, eq-eqb, ne-eqb}
 use Rattle.theory.specs.Least.{FirstPair}
 use Rattle.theory.specs.Tests.{firstRow, lowest}
+use Rattle.theory.specs.Relations.{all-pass}
 use Rattle.theory.specs.RelationTests.{relationOutcome}
 use Rattle.report.specs.declared.Place.{Place}
 use Rattle.report.specs.declared.Place.the-variants.{RelationLength, PairNoVertex, PairStarts}
 use Rattle.report.specs.declared.Stage.{Stage}
 use Rattle.report.specs.declared.Stage.the-variants.{Passed, Refused}
+use Rattle.bits.specs.declared.sets.Set.{Set}
+use Rattle.bits.specs.Sets.{Empty}
 use Rattle.chart.proofs.Checks.{well-formed}
 use Rattle.chart.specs.Bodies.{verticesOf, startOf, WellFormed}
 use Rattle.chart.specs.Leaving.{whenPassed}
 use Rattle.bisimulation.specs.Relations.{relatedTest, strayBitTest, relationStage, relationOutcomeOf, relationOf, openingOf}
-use Rattle.bisimulation.specs.Answers.{Related, StrayBit, StrayAnswer, RelationFits, SomeChart, PairsAnswer}
+use Rattle.bisimulation.specs.Answers.{Related, StrayBit, StrayAnswer, RelationFits, PassOutside, ListedChart}
+use Rattle.bisimulation.specs.Answers.{SomeListed, SomeNumbered, PairsAnswer}
 use Rattle.bisimulation.specs.Classes.{Stepped}
 use Rattle.bisimulation.proofs.PairChecks.{passed-refused}
-use Rattle.bisimulation.proofs.Relations.{one-first, fits-of, strays-found}
-use Rattle.bisimulation.proofs.StepLaws.{numbered-step}
+use Rattle.bisimulation.proofs.Relations.{one-first, fits-of, strays-found, fitting, relation-of}
+use Rattle.bisimulation.proofs.StepLaws.{numbered-listed, at-step}
 
 -- THE CODE
 module _ (vertices start : ℕ) (b relation : List ℕ) where
@@ -30,36 +34,47 @@ module _ (vertices start : ℕ) (b relation : List ℕ) where
   unfolding openingOf
   opening-40 n = rw (ne-eqb (length relation) (16 * vertices) n) refl
 
-  module _ (w : length relation ≡ 16 * vertices) {s : Stage} (A : StrayAnswer b relation s) where
+  module _ (w : length relation ≡ 16 * vertices) where
     abbrev row : ℕ
     row = firstRow (strayBitTest b relation) vertices 128
 
     abbrev column : ℕ
     column = lowest (strayBitTest b relation row) 0 128
 
-    pub opening-41 : {p : Place} → s ≡ Refused p → s ≡ openingOf vertices start b relation
+    refused-41 : {s : Stage} {p : Place} → StrayAnswer b relation s → s ≡ Refused p → s ≡ openingOf vertices start b relation
     unfolding openingOf
-    opening-41 {p} r = let (u, v, F, k) = A .refused p r in k ∙ rw (eq-eqb (length relation) (16 * vertices) w) (go u v F (ltb row vertices) refl)
+    refused-41 {p = p} A r =
+        let (u, v, F, k) = A .refused p r in
+        k ∙ rw (eq-eqb (length relation) (16 * vertices) w) (go u v F (ltb row vertices) refl)
       where
         go : (u v : ℕ) → FirstPair (StrayBit b relation) u v → (x : Bool) → ltb row vertices ≡ x → Refused (PairNoVertex u v) ≡ cond x (Refused (PairNoVertex row column)) (cond (relatedTest relation start (startOf b)) Passed (Refused (PairStarts start (startOf b))))
         go u v F true e = let (f, g) = one-first F (strays-found b relation vertices w .0 (ltb-true row vertices e)) in rw (f, g) refl
         go u v F false e = absurd (strays-found b relation vertices w .1 (ltb-false row vertices e) u v (F .holds))
 
-    -- q is the start that the code reads
-    module _ (r : s ≡ Passed) {q : ℕ} (f : q ≡ startOf b) where
+    -- where a bit is stray
+    pub opening-41 : {s : Stage} → StrayAnswer b relation s → ¬ ((u v : ℕ) → ¬ StrayBit b relation u v)
+        → s ≡ openingOf vertices start b relation
+    opening-41 {s} A n = go s refl
+      where
+        go : (t : Stage) → s ≡ t → s ≡ openingOf vertices start b relation
+        go Passed e = absurd (n (A .passed e))
+        go (Refused p) e = refused-41 A e
+
+    -- where none is; q is the start that the code reads
+    module _ (n : (u v : ℕ) → ¬ StrayBit b relation u v) {q : ℕ} (f : q ≡ startOf b) where
       rest : cond (relatedTest relation start q) Passed (Refused (PairStarts start q)) ≡ openingOf vertices start b relation
       unfolding openingOf
       rest = rw (eq-eqb (length relation) (16 * vertices) w, f) (go (ltb row vertices) refl)
         where
           go : (x : Bool) → ltb row vertices ≡ x → cond (relatedTest relation start (startOf b)) Passed (Refused (PairStarts start (startOf b))) ≡ cond x (Refused (PairNoVertex row column)) (cond (relatedTest relation start (startOf b)) Passed (Refused (PairStarts start (startOf b))))
-          go true e = absurd (A .passed r row column (strays-found b relation vertices w .0 (ltb-true row vertices e) .holds))
+          go true e = absurd (n row column (strays-found b relation vertices w .0 (ltb-true row vertices e) .holds))
           go false e = refl
 
       pub opening-42 : ¬ Related relation start q → Refused (PairStarts start q) ≡ openingOf vertices start b relation
-      opening-42 n = go (relatedTest relation start q) refl
+      opening-42 d = go (relatedTest relation start q) refl
         where
           go : (x : Bool) → relatedTest relation start q ≡ x → Refused (PairStarts start q) ≡ openingOf vertices start b relation
-          go true e = absurd (n e)
+          go true e = absurd (d e)
           go false e = rw e at rest
 
       pub opening-passed : Related relation start q → Passed ≡ openingOf vertices start b relation
@@ -116,26 +131,40 @@ module _ (e b relation : List ℕ) where
     pub opening-passes : s ≡ Passed → RelationFits e b relation × Related relation (startOf e) (startOf b)
     opening-passes q = opening-fits (is-opening ∙ q)
 
--- WHERE SOME CHART HAS THE NUMBERS
--- 43 to 45 have one answer
-pub pairs-one : {keys words : List ℕ} {m vertices : ℕ} {body relation : List ℕ} {s t : Stage} → SomeChart keys words m vertices body relation → PairsAnswer keys words m vertices body relation s → PairsAnswer keys words m vertices body relation t → s ≡ t
-pairs-one (e, N) S T = S e N ∙ sym (T e N)
+-- WHERE A CHART HAS THE STEPS
+-- by their numbers, 43 to 45 have one answer
+pub pairs-one : {keys words : List ℕ} {m vertices : ℕ} {body relation : List ℕ} {suspects : Set} {s t : Stage}
+    → SomeNumbered keys words m vertices body relation suspects → PairsAnswer keys words m vertices body relation suspects s
+    → PairsAnswer keys words m vertices body relation suspects t → s ≡ t
+pairs-one (e, N, P) S T = S e N P ∙ sym (T e N P)
 
--- and the relation has a row for each of its vertices
-pub rows-fit : {keys words : List ℕ} {m vertices : ℕ} {body relation : List ℕ} → SomeChart keys words m vertices body relation → (length relation ≡ 16 * vertices) × (vertices ≤ 128)
+-- they pass where nothing is doubtful
+pub none-doubtful : {keys words : List ℕ} {m vertices : ℕ} {body relation e : List ℕ} {r : Set}
+    → ListedChart keys words m vertices body relation e → PassOutside e body relation r → Empty r
+    → Passed ≡ relationOf e body relation
+none-doubtful N P f = relation-of (fitting (N .fits) (all-pass (N .starts) (λ u v h. P u v h (f v))))
+
+-- what has their numbers has the steps
+pub some-listed : {keys words : List ℕ} {m vertices : ℕ} {body relation : List ℕ} {suspects : Set}
+    → SomeNumbered keys words m vertices body relation suspects → SomeListed keys words m vertices body relation
+some-listed (e, N, P) = (e, numbered-listed N)
+
+-- the relation has a row for each vertex
+pub rows-fit : {keys words : List ℕ} {m vertices : ℕ} {body relation : List ℕ} → SomeListed keys words m vertices body relation
+    → (length relation ≡ 16 * vertices) × (vertices ≤ 128)
 rows-fit (e, N) = let h = well-formed e (N .passes) .header .vertices-high in (omega (arith, N .fits .whole, N .size), omega (arith, h, N .size))
 
--- its steps lead to rows, and row 0 has none
-pub stepped : {keys words : List ℕ} {m vertices : ℕ} {body relation : List ℕ} → SomeChart keys words m vertices body relation
+-- the steps lead to rows, and row 0 has none
+pub stepped : {keys words : List ℕ} {m vertices : ℕ} {body relation : List ℕ} → SomeListed keys words m vertices body relation
     → Stepped keys words m vertices relation
 stepped {keys} {words} {m} {vertices} (e, N) = record {
-  coded = N .numbered .coded;
+  listed = N .lists .listed;
   targets = λ k l.
-      let (u, on) = N .numbered .coded .used k l in
-      let (i, h, f, a, t) = numbered-step (N .numbered) u k on in
+      let (u, on) = N .lists .listed .used k l in
+      let (i, h, f, a, t) = at-step (N .lists) u k on in
       omega (arith, W .each i h .to-high, N .size);
   end = λ k on.
-      let (i, h, f, a, t) = numbered-step (N .numbered) 0 k on in
+      let (i, h, f, a, t) = at-step (N .lists) 0 k on in
       omega (arith, W .each i h .from-low);
   whole = rows-fit (e, N) .0;
   few = rows-fit (e, N) .1;

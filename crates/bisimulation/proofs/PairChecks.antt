@@ -1,15 +1,17 @@
 -- 43 to 45 of a pair, of a row and of all rows: what the loops keep, and what their answers say.
 use mathlib.Core.Path.{_≡_, refl, sym, subst}
-use mathlib.Core.Logic.{inl, inr, ⊎-elim, by-cases}
+use mathlib.Core.Logic.{_⊎_, inl, inr, ⊎-elim, _↔_, by-cases}
 use mathlib.Core.Bool.{Bool, true, false, Bool·beq, false≢true}
 use mathlib.Core.List.{List}
-use Prim.Native.Nat.{ℕ, _≤_, _<_}
-use native.Mathlib.Decide.{decLt}
+use Prim.Native.Nat.{ℕ, _+_, _*_, _≤_, _<_}
+use native.Mathlib.Decide.{ℕ-discrete, decLt}
 use native.Mathlib.Omega.{arith}
 use lib.Dec.{eqb}
+use lib.ListN.{length}
 use Rattle.bits.specs.declared.sets.Set.{Set}
 use Rattle.bits.specs.First.{First}
-use Rattle.bits.specs.Sets.{Has, Members, Difference}
+use Rattle.bits.specs.Sets.{Has, emptySet, Empty, Members, Union, Difference}
+use Rattle.bits.proofs.Members.{none}
 use Rattle.theory.specs.Least.{Earlier}
 use Rattle.theory.specs.Tests.{Decides}
 use Rattle.theory.proofs.Tests.{decides-eqb, not-so}
@@ -20,7 +22,7 @@ use Rattle.report.specs.declared.Place.the-variants.{PairNoVertex}
 use Rattle.report.specs.declared.Stage.{Stage}
 use Rattle.report.specs.declared.Stage.the-variants.{Passed, Refused}
 use Rattle.bisimulation.specs.Answers.{Related, StrayBit, Passes, FailsWith, PairAnswer, RowAnswer, CheckedAnswer, StrayAnswer}
-use Rattle.bisimulation.proofs.RowLaws.{has-related}
+use Rattle.bisimulation.proofs.RowLaws.{related-row, has-related}
 
 -- 43: the test of the ends
 pub decides-ends : (u v : ℕ) → Decides (Bool·beq (eqb u 0) (eqb v 0)) (EndsAgree u v)
@@ -63,6 +65,41 @@ module _ (body relation : List ℕ) (u : ℕ) {v : ℕ} {s inside d : Set} (M : 
 
 pub stray-passed : {body relation : List ℕ} → ((u v : ℕ) → ¬ StrayBit body relation u v) → StrayAnswer body relation Passed
 stray-passed h = record { passed = λ q. h; refused = λ p q. absurd (passed-refused refl q) }
+
+-- `all_inside`: what the first n rows are related to
+pub record RowsJoined (relation : List ℕ) (n : ℕ) (s : Set) : Type 0 where
+  pub exactly : (w : ℕ) → Has s w ↔ ((u : ℕ) × (u < n) × Related relation u w)
+
+pub rows-none : (relation : List ℕ) {s : Set} → s ≡ emptySet → RowsJoined relation 0 s
+rows-none relation e = record { exactly = λ w. ((λ h. absurd (none w (rw e at h))), (λ (u, l, r). absurd (omega arith))) }
+
+pub rows-more : {relation : List ℕ} {u : ℕ} {s row t : Set} → RowsJoined relation u s → Members (Related relation u) row
+    → Union s row t → RowsJoined relation (u + 1) t
+rows-more {relation} {u} {s} {row} {t} J M U = record { exactly = λ w. ((λ h. there w (U w .0 h)), back w) }
+  where
+    there : (w : ℕ) → Has s w ⊎ Has row w → (a : ℕ) × (a < u + 1) × Related relation a w
+    there w (inl h) = let (a, l, r) = J .exactly w .0 h in (a, omega arith, r)
+    there w (inr h) = (u, omega arith, has-related relation u M w .0 h)
+
+    back : (w : ℕ) → (a : ℕ) × (a < u + 1) × Related relation a w → Has t w
+    back w (a, l, r) =
+        by-cases (ℕ-discrete a u)
+        (λ e. U w .1 (inr (has-related relation u M w .1 (subst (λ (x : ℕ). Related relation x w) e r))))
+        (λ e. U w .1 (inl (J .exactly w .1 (a, omega arith, r))))
+
+-- d has the bits of all rows outside the first V columns
+pub joined-inside : (body relation : List ℕ) {rows n : ℕ} {s inside d : Set} → length relation ≡ 16 * rows → rows ≤ n
+    → RowsJoined relation n s → Members (λ (w : ℕ). w < verticesOf body) inside → Difference s inside d
+    → Empty d ↔ ((u v : ℕ) → ¬ StrayBit body relation u v)
+joined-inside body relation {rows} W l J I D = (
+  (λ f u v (h, r).
+      let b = related-row relation rows u v W r in
+      f v (D v .1 (J .exactly v .1 (u, omega arith, r), λ g. omega (arith, I .exactly v (g .below) .0 g)))),
+  (λ f v h.
+      let (g, n) = D v .0 h in
+      let (u, b, r) = J .exactly v .0 g in
+      f u v (by-cases (decLt v (verticesOf body)) (λ c. absurd (n (I .exactly v (h .below) .1 c))) (λ c. omega arith), r)),
+)
 
 module _ {expression body relation : List ℕ} {u : ℕ} where
   -- a pair

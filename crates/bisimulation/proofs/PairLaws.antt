@@ -19,6 +19,7 @@ use Rattle.bits.specs.Tables.{InFirst}
 use Rattle.bits.proofs.Members.{zero-off}
 use Rattle.chart.specs.Bodies.{countOf, fromOf, actionOf, toOf, WellFormed}
 use Rattle.chart.specs.Leaving.{Begins}
+use Rattle.chart.specs.Numbered.{Lists}
 use Rattle.chart.proofs.Order.{at-mid, between}
 use Rattle.bisimulation.specs.Relations.{indexedOf}
 use Rattle.bisimulation.specs.Answers.{Related, Passes}
@@ -27,7 +28,7 @@ use Rattle.bisimulation.specs.Places.{StepPlace}
 use Rattle.bisimulation.specs.Pairs.{Alone, StepTables, Sought}
 use Rattle.bisimulation.proofs.RowLaws.{related-column}
 use Rattle.bisimulation.proofs.PlaceLaws.{one-place, key-order}
-use Rattle.bisimulation.proofs.StepLaws.{step-of, at-step, is-matched, is-match}
+use Rattle.bisimulation.proofs.StepLaws.{numbered-lists, step-of, at-step, is-matched, is-match}
 
 -- `matched`: one transition more
 pub matched-more : (into acting body : List ℕ) (a i s x r : ℕ) → a ≤ i → ((k : ℕ) → On s k ↔ MatchedIn into acting body a i k) → ((k : ℕ) → On x k ↔ Match into acting body i k) → ((k : ℕ) → On r k ↔ (On s k ⊎ On x k)) → (k : ℕ) → On r k ↔ MatchedIn into acting body a (i + 1) k
@@ -69,6 +70,9 @@ met-by into acting body steps i low f =
         second on = elim (ℕ-discrete (getD into (toOf body i) 0 / 2 ^ k % 2) 1) [ yes h ↦ third on h | no h ↦ no (λ g. h (g .1 .0)) ]
 
 module _ {into acting words e relation body begins : List ℕ} (B : Bytes body) (W : WellFormed body) (R : Begins body begins) (T : StepTables into acting words e relation) (u : ℕ) {v : ℕ} (low : v < 128) where
+  lists : Lists e (T .keys) words (T .m)
+  lists = numbered-lists (T .numbered)
+
   -- the transitions of v stand from its entry up to the next
   here : (j : ℕ) → j < countOf body → fromOf body j ≡ v → (getD begins v 0 ≤ j) × (j < getD begins (v + 1) 0)
   here = between (R .split v (omega arith)) (R .split (v + 1) (omega arith))
@@ -84,25 +88,30 @@ module _ {into acting words e relation body begins : List ℕ} (B : Bytes body) 
         (λ m.
         let (j, p, q, M) = S k .0 m in
         let (h, f) = leaves j p q in
-        let (x, y) = is-matched B W T i k j a t h M in
+        let (x, y) = is-matched B W (T .spread) (T .acts) e i k j a t h M in
         (j, h, f, x, y))
         (λ m. absurd (n (D k .1 (on, m))))
 
     pub none-left : left ≡ 0 → AllMatched (indexedOf e) (indexedOf body) (Related relation) u v
     none-left z i h f =
-        let (k, l, a, t, on) = step-of T u i h f in
+        let (k, l, a, t, on) = step-of lists u i h f in
         unless-left i k a t on (λ m. zero-off k (rw z at m))
 
     pub least-left : (k r : ℕ) → LowestOn left k → StepPlace words u k r → Least (Unmatched (indexedOf e) (indexedOf body) (Related relation) u v) r
     least-left k r L P =
         let (on, off) = D k .0 (L .on) in
-        let l = T .numbered .coded .known u k on in
-        let (t, h, f, x, y) = at-step T u k on in
+        let l = T .numbered .coded .listed .known u k on in
+        let (t, h, f, x, y) = at-step lists u k on in
         let z = one-place (T .formed) (P e (T .keys) (T .m) (T .formed) (T .numbered) l) t h (omega arith) in
         subst (Least (Unmatched (indexedOf e) (indexedOf body) (Related relation) u v)) z (record {
-          holds = (h, f, λ (j, g, p, q, c). off (S k .1 (j, here j g p .0, here j g p .1, is-match B W T t k j x y g l q c)));
+          holds = (
+            h,
+            f,
+            λ (j, g, p, q, c).
+                off (S k .1 (j, here j g p .0, here j g p .1, is-match B W (T .spread) (T .acts) e t k j x y g l q c)),
+          );
           lowest = λ i b (g, p, n).
-              let (k₁, l₁, x₁, y₁, on₁) = step-of T u i g p in
+              let (k₁, l₁, x₁, y₁, on₁) = step-of lists u i g p in
               let c = T .formed .ascending i t b h in
               n (unless-left i k₁ x₁ y₁ on₁ (L .below k₁ (key-order (T .formed) (T .numbered) k₁ k l₁ (omega arith))));
         })
@@ -111,12 +120,12 @@ module _ {into acting words e relation body begins : List ℕ} (B : Bytes body) 
   module _ {r : ℕ} (A : First (Alone into acting body (getD words u 0)) (getD begins v 0) (getD begins (v + 1) 0) r) where
     met : (j : ℕ) → j < countOf body → (k : ℕ) → On (getD words u 0) k → Match into acting body j k → Matched (indexedOf body) (indexedOf e) (converse (Related relation)) u j
     met j h k on M =
-        let (i, g, p, a, t) = at-step T u k on in
-        let (q, c) = is-matched B W T i k j a t h M in
+        let (i, g, p, a, t) = at-step lists u k on in
+        let (q, c) = is-matched B W (T .spread) (T .acts) e i k j a t h M in
         (i, g, p, sym q, c)
 
     low-step : (k : ℕ) → On (getD words u 0) k → k < 64
-    low-step k on = omega (arith, T .numbered .coded .known u k on, T .numbered .coded .few)
+    low-step k on = omega (arith, T .numbered .coded .listed .known u k on, T .numbered .coded .listed .few)
 
     pub none-alone : getD begins (v + 1) 0 ≤ r → AllMatched (indexedOf body) (indexedOf e) (converse (Related relation)) v u
     none-alone l j h f =
@@ -128,7 +137,13 @@ module _ {into acting words e relation body begins : List ℕ} (B : Bytes body) 
     least-alone l =
         let (h, f) = leaves r (A .from) l in
         record {
-          holds = (h, f, λ (i, g, p, q, c). let (k, b, a, t, on) = step-of T u i g p in A .holds l k on (is-match B W T i k r a t h b (sym q) c));
+          holds = (
+            h,
+            f,
+            λ (i, g, p, q, c).
+                let (k, b, a, t, on) = step-of lists u i g p in
+                A .holds l k on (is-match B W (T .spread) (T .acts) e i k r a t h b (sym q) c),
+          );
           lowest =
               λ j b (g, p, n). let (k, on, M) = met-by into acting body (getD words u 0) j low-step (A .before j (here j g p .0) b) in
               n (met j g k on M);

@@ -40,7 +40,7 @@ module _ {e keys words : List ℕ} {m : ℕ} (W : WellFormed e) (N : Numbered e 
   -- a step of a vertex is a transition
   pub at-key : (u k : ℕ) → On (getD words u 0) k → (i : ℕ) × (i < countOf e) × (fromOf e i ≡ u) × (keyAt e i ≡ 65536 * u + getD keys k 0)
   at-key u k on =
-      let a = N .exactly u (getD keys k 0 / 256) (getD keys k 0 % 256) .1 (k, N .coded .known u k on, refl, refl, on) in
+      let a = N .exactly u (getD keys k 0 / 256) (getD keys k 0 % 256) .1 (k, N .coded .listed .known u k on, refl, refl, on) in
       let p = a .leaves in
       let q = a .holds .is in
       let r = a .enters in
@@ -67,7 +67,7 @@ module _ {e keys words : List ℕ} {m : ℕ} (W : WellFormed e) (N : Numbered e 
     found : (i : ℕ) → i < countOf e → 65536 * x ≤ keyAt e i → (65536 * (x + 1) ≤ keyAt e i) ⊎ ((j : ℕ) × (j < m) × (keyAt e i ≡ 65536 * x + getD keys j 0) × On (getD words x 0) j)
     found i h l =
         let (j, b, q, on) = key-of i h in
-        let f = N .coded .fit j b in
+        let f = N .coded .listed .fit j b in
         by-cases (ℕ-discrete (fromOf e i) x)
         (λ d. inr (j, b, omega arith, subst (λ (y : ℕ). On (getD words y 0) j) d on))
         (λ d. inl (omega arith))
@@ -91,7 +91,7 @@ module _ {e keys words : List ℕ} {m : ℕ} (W : WellFormed e) (N : Numbered e 
     at-step : (k : ℕ) → k < m → Past k (65536 * x + getD keys k 0)
     at-step k b = record {
       low = omega arith;
-      high = omega (arith, N .coded .fit k b);
+      high = omega (arith, N .coded .listed .fit k b);
       before = λ j l c. omega (arith, N .coded .rising j k l b);
       after = λ j l c.
           by-cases (ℕ-discrete j k)
@@ -113,7 +113,9 @@ module _ {e keys words : List ℕ} {m : ℕ} (W : WellFormed e) (N : Numbered e 
         (λ b.
         let Q = climb k (65536 * x + getD keys k 0) (at-step k b) in
         by-cases (ℕ-discrete (getD words x 0 / 2 ^ k % 2) 1) (with-bit b Q) (without-bit b Q))
-        (λ b. rw (bit-uncounted (getD words x 0) k (λ on. b (N .coded .known x k on))) (climb k n (record { low = S .low; high = S .high; before = λ j l c. S .before j (omega arith) c; after = λ j l c. absurd (omega arith) })))
+        (λ b.
+        rw (bit-uncounted (getD words x 0) k (λ on. b (N .coded .listed .known x k on)))
+        (climb k n (record { low = S .low; high = S .high; before = λ j l c. S .before j (omega arith) c; after = λ j l c. absurd (omega arith) })))
       where
         with-bit : k < m → KeysSplit e (65536 * x + getD keys k 0) (at + bitsBelow (getD words x 0) k) → On (getD words x 0) k → KeysSplit e n (at + bitsBelow (getD words x 0) (suc k))
         with-bit b Q on =
@@ -143,6 +145,6 @@ module _ {e keys words : List ℕ} {m : ℕ} (W : WellFormed e) (N : Numbered e 
     place-vertex r q = rw q (climb 64 (65536 * (x + 1)) (record {
       low = omega arith;
       high = omega arith;
-      before = λ j h c. omega (arith, N .coded .fit j c);
-      after = λ j h c. absurd (omega (arith, N .coded .few));
+      before = λ j h c. omega (arith, N .coded .listed .fit j c);
+      after = λ j h c. absurd (omega (arith, N .coded .listed .few));
     }))

@@ -1,12 +1,10 @@
 -- Small charts: what the loops keep, and that their pairs pass.
-use mathlib.Core.Path.{_≡_, refl, sym, _∙_, subst}
+use mathlib.Core.Path.{_≡_, sym, _∙_, subst}
 use mathlib.Core.Logic.{_⊎_, ⊎-elim}
 use mathlib.Core.List.{List}
 use Prim.Native.Nat.{ℕ, _+_, _/_}
 use native.Mathlib.Omega.{arith}
 use lib.ListN.{getD}
-use Rattle.theory.specs.Relations.{related, all-pass}
-use Rattle.report.specs.declared.Stage.the-variants.{Passed}
 use Rattle.bits.specs.declared.sets.Set.{Set}
 use Rattle.bits.specs.Words.{On}
 use Rattle.bits.specs.Sets.{Has, Members}
@@ -14,8 +12,9 @@ use Rattle.bits.proofs.Members.{zero-off}
 use Rattle.bits.proofs.Visits.{Visit}
 use Rattle.chart.specs.Bodies.{actionOf, toOf, WellFormed}
 use Rattle.chart.specs.Leaving.{Begins}
+use Rattle.chart.specs.Numbered.{Lists}
 use Rattle.chart.proofs.Order.{at-mid, between}
-use Rattle.bisimulation.specs.Answers.{Related, Passes, NumberedChart, CheckedAnswer}
+use Rattle.bisimulation.specs.Answers.{Related, Passes}
 use Rattle.bisimulation.specs.Suspects.{rowAt}
 use Rattle.bisimulation.specs.Classes.{Stepped}
 use Rattle.bisimulation.specs.Small.{RowsGiven, StepFits, PairPassesBy, RowPassesBy, RowsPassBy}
@@ -27,12 +26,12 @@ use Rattle.bisimulation.proofs.SuspectLaws.{Past, past-first, past-next
 pub rows-given : {keys words relation body begins : List ℕ} {m rows : ℕ} → Stepped keys words m rows relation → WellFormed body
     → Begins body begins → RowsGiven keys words rows relation body begins
 rows-given S W R = record {
-  words-long = S .coded .words-long;
+  words-long = S .listed .words-long;
   few = S .few;
   whole = S .whole;
   steps = λ u k on.
-      let l = S .coded .known u k on in
-      (omega (arith, S .coded .few, S .coded .keys-long), omega (arith, S .targets k l, S .whole));
+      let l = S .listed .known u k on in
+      (omega (arith, S .listed .few, S .listed .keys-long), omega (arith, S .targets k l, S .whole));
   formed = W;
   parted = R;
 }
@@ -71,19 +70,15 @@ module _ {keys relation body begins : List ℕ} {word u : ℕ} {s left : Set} (P
   pub passed-all : Members (Related relation u) s → ((v : ℕ) → ¬ Has left v) → RowPassesBy keys relation body begins word u
   passed-all M E v r = P .each v (has-related relation u M v .1 r, E v)
 
--- every pair of the chart passes
-pub small-answer : {keys words body relation begins e : List ℕ} {m vertices : ℕ} → NumberedChart keys words m vertices body relation e
-    → Stepped keys words m vertices relation → Begins body begins → RowsPassBy keys words relation body begins vertices
-    → CheckedAnswer e body relation Passed
-small-answer {keys} {words} {body} {relation} {begins} {e} {m} {vertices} N S R A =
-    (related, all-pass (N .starts) (λ u v r. passes u v r (A u (related-row relation vertices u v (S .whole) r) v r)), refl)
-  where
-    passes : (u v : ℕ) → Related relation u v → PairPassesBy keys relation body begins (getD words u 0) u v
-        → Passes e body relation u v
-    passes u v r (E, P) =
-        let low = related-column relation u v r in
-        let begin = R .split v (omega arith) in
-        let end = R .split (v + 1) (omega arith) in
-        pair-passes (N .numbered) E
-        (λ k on. let (i, f, g, F) = P .matched k on in (i, omega (arith, end .within), at-mid begin end i f g, F))
-        (λ j h f. let (a, b) = between begin end j h f in P .met j a b)
+-- every pair of a chart with these steps passes
+pub small-pairs : {keys words body relation begins e : List ℕ} {m rows : ℕ} → Lists e keys words m
+    → Stepped keys words m rows relation → Begins body begins → RowsPassBy keys words relation body begins rows
+    → (u v : ℕ) → Related relation u v → Passes e body relation u v
+small-pairs {relation = relation} {rows = rows} L S R A u v r =
+    let (E, P) = A u (related-row relation rows u v (S .whole) r) v r in
+    let low = related-column relation u v r in
+    let begin = R .split v (omega arith) in
+    let end = R .split (v + 1) (omega arith) in
+    pair-passes L E
+    (λ k on. let (i, f, g, F) = P .matched k on in (i, omega (arith, end .within), at-mid begin end i f g, F))
+    (λ j h f. let (a, b) = between begin end j h f in P .met j a b)

@@ -17,12 +17,14 @@ use Rattle.bits.proofs.Gains.{blank}
 use Rattle.bits.proofs.Visits.{Visit}
 use Rattle.chart.specs.Bodies.{countOf, actionOf, toOf, WellFormed}
 use Rattle.chart.specs.Leaving.{Begins}
+use Rattle.chart.specs.Numbered.{Lists}
 use Rattle.chart.proofs.Order.{at-mid, between}
-use Rattle.bisimulation.specs.Answers.{Related}
+use Rattle.bisimulation.specs.Answers.{Related, PassOutside}
 use Rattle.bisimulation.specs.Suspects.{rowAt, Into, Acting, Match, Clear}
 use Rattle.bisimulation.specs.Classes.{Classes, classAt, Leading, Alike, ClassSteps, Adds, Cuts, Stands, Spread, RowIn, RowsIn}
-use Rattle.bisimulation.specs.Classes.{Passing, PassesAt, Sifted, Apart, Stepped, SameStep, Joined, Suspected, Unsuspected}
+use Rattle.bisimulation.specs.Classes.{Passing, PassesAt, Sifted, Apart, Stepped, SameStep, Joined, Suspected}
 use Rattle.bisimulation.proofs.RowLaws.{related-row, related-column, has-related}
+use Rattle.bisimulation.proofs.ClearLaws.{clear-passes}
 
 -- TABLES OF WORDS: nothing at first, one word more, and the same said in another way
 pub adds-none : {P : ℕ → Type 0} {x : ℕ} {a : List ℕ} → ((w : ℕ) → ¬ P w) → Adds P x a a
@@ -314,7 +316,7 @@ module _ {keys words relation class leading every some into all any : List ℕ} 
         let l = low u v r in
         let shared = S .common v k (getD class u 0) (related-column relation u v r) (class-low u l) (stands u v l r) on in
         let (j, o, z) = G .all u (positive u n) l .each k shared in
-        (j, o, same-step j k (T .coded .known u j o) h z);
+        (j, o, same-step j k (T .listed .known u j o) h z);
     steps = λ u v k n r on.
         let l = low u v r in
         S .joined v k (getD class u 0) (related-column relation u v r) (class-low u l) (stands u v l r) (G .any u k (positive u n) l on);
@@ -370,10 +372,10 @@ module _ {keys words relation into acting all any body begins : List ℕ} {m row
             let (k, on, M) = Q .met i f g in
             let a = B (4 * i + 4 + 1) in
             let (j, o, s) = J .common u v k n r (A .exactly (actionOf body i) k a .0 (M .1) .0) on in
-            (j, o, same-matches I A B W i j k h (T .coded .known u j o) s M);
+            (j, o, same-matches I A B W i j k h (T .listed .known u j o) s M);
       }
 
-  pub pair-clear : Unsuspected into acting words body relation r
+  pair-clear : (u v : ℕ) → Related relation u v → ¬ Has r v → Clear into acting words body u v
   pair-clear u v h n = by-cases (ℕ-discrete u 0) zero other
     where
       zero : u ≡ 0 → Clear into acting words body u v
@@ -385,3 +387,6 @@ module _ {keys words relation into acting all any body begins : List ℕ} {m row
       other d = by-cases (ℕ-discrete v 0)
           (λ f. absurd (n (subst (Has r) (sym f) (F .end (subst (Has related) f (J .given u v d h))))))
           (λ f. passing-clear u v d f h (F .others v (J .given u v d h) n))
+
+  pub outside-pass : {e : List ℕ} → Lists e keys words m → PassOutside e body relation r
+  outside-pass L u v h n = clear-passes B W L I A (pair-clear u v h n)

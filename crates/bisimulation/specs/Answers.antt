@@ -10,9 +10,11 @@ use Rattle.report.specs.declared.Place.{Place}
 use Rattle.report.specs.declared.Place.the-variants.{PairNoVertex}
 use Rattle.report.specs.declared.Stage.{Stage}
 use Rattle.report.specs.declared.Stage.the-variants.{Passed, Refused}
+use Rattle.bits.specs.declared.sets.Set.{Set}
+use Rattle.bits.specs.Sets.{Has}
 use Rattle.chart.specs.Bodies.{verticesOf, startOf}
 use Rattle.chart.specs.Checks.{checkOf}
-use Rattle.chart.specs.Numbered.{Numbered}
+use Rattle.chart.specs.Numbered.{Lists, Numbered}
 use Rattle.bisimulation.specs.Relations.{indexedOf, relatedTest, relationStage, relationOf}
 
 -- expression vertex u is related to chart vertex v
@@ -38,6 +40,10 @@ module _ (expression body relation : List ℕ) where
   -- 43 to 45 pass for one pair
   abbrev pub Passes : ℕ → ℕ → Type 0
   Passes u v = PairPasses (indexedOf expression) (indexedOf body) (Related relation) u v
+
+  -- 43 to 45 pass for each related pair of a chart vertex outside the set
+  abbrev pub PassOutside : Set → Type 0
+  PassOutside r = (u v : ℕ) → Related relation u v → ¬ Has r v → Passes u v
 
   -- some outcome of a pair that fails stands for this answer
   abbrev pub FailsWith : ℕ → ℕ → Stage → Type 0
@@ -67,7 +73,15 @@ module _ (expression body relation : List ℕ) where
       × RelationChecked (indexedOf expression) (indexedOf body) (Related relation) o
       × (s ≡ relationStage expression body o)
 
--- the expression's chart has so many vertices and these numbers of its steps, and 40 to 42 pass
+-- the expression's chart has so many vertices and these steps, and 40 to 42 pass
+pub record ListedChart (keys words : List ℕ) (m vertices : ℕ) (body relation expression : List ℕ) : Type 0 where
+  pub passes : checkOf expression ≡ Passed
+  pub size : verticesOf expression ≡ vertices
+  pub lists : Lists expression keys words m
+  pub fits : RelationFits expression body relation
+  pub starts : Related relation (startOf expression) (startOf body)
+
+-- the same with these numbers of its steps
 pub record NumberedChart (keys words : List ℕ) (m vertices : ℕ) (body relation expression : List ℕ) : Type 0 where
   pub passes : checkOf expression ≡ Passed
   pub size : verticesOf expression ≡ vertices
@@ -75,11 +89,22 @@ pub record NumberedChart (keys words : List ℕ) (m vertices : ℕ) (body relati
   pub fits : RelationFits expression body relation
   pub starts : Related relation (startOf expression) (startOf body)
 
--- there is such a chart
-abbrev pub SomeChart : (keys words : List ℕ) → (m vertices : ℕ) → (body relation : List ℕ) → Type 0
-SomeChart keys words m vertices body relation = (e : List ℕ) × NumberedChart keys words m vertices body relation e
+-- there is a chart with these steps
+abbrev pub SomeListed : (keys words : List ℕ) → (m vertices : ℕ) → (body relation : List ℕ) → Type 0
+SomeListed keys words m vertices body relation = (e : List ℕ) × ListedChart keys words m vertices body relation e
 
--- what 43 to 45 answer, of every such chart
-abbrev pub PairsAnswer : (keys words : List ℕ) → (m vertices : ℕ) → (body relation : List ℕ) → Stage → Type 0
-PairsAnswer keys words m vertices body relation s =
-    (e : List ℕ) → NumberedChart keys words m vertices body relation e → s ≡ relationOf e body relation
+-- there is one with these numbers of its steps, for which every pair outside the set passes
+abbrev pub SomeNumbered : (keys words : List ℕ) → (m vertices : ℕ) → (body relation : List ℕ) → Set → Type 0
+SomeNumbered keys words m vertices body relation suspects =
+    (e : List ℕ) × NumberedChart keys words m vertices body relation e × PassOutside e body relation suspects
+
+-- outside the set every pair passes, for every chart with these steps
+abbrev pub Doubtful : (keys words : List ℕ) → (m vertices : ℕ) → (body relation : List ℕ) → Set → Type 0
+Doubtful keys words m vertices body relation r =
+    (e : List ℕ) → ListedChart keys words m vertices body relation e → PassOutside e body relation r
+
+-- what 43 to 45 answer, for every chart with these numbers for which every pair outside the set passes
+abbrev pub PairsAnswer : (keys words : List ℕ) → (m vertices : ℕ) → (body relation : List ℕ) → Set → Stage → Type 0
+PairsAnswer keys words m vertices body relation suspects s =
+    (e : List ℕ) → NumberedChart keys words m vertices body relation e → PassOutside e body relation suspects
+    → s ≡ relationOf e body relation

@@ -8,9 +8,9 @@ use lib.ListN.{length, getD}
 use Rattle.bits.specs.declared.sets.Set.{Set}
 use Rattle.bits.specs.Words.{On}
 use Rattle.bits.specs.Sets.{Has}
-use Rattle.chart.specs.Numbered.{Coded}
+use Rattle.chart.specs.Numbered.{Listed}
 use Rattle.bisimulation.specs.Answers.{Related}
-use Rattle.bisimulation.specs.Suspects.{SameRow, rowAt, Sorted, Match, Clear}
+use Rattle.bisimulation.specs.Suspects.{SameRow, rowAt, Sorted, Match}
 
 -- CLASSES
 -- the class of a row: a row up to it, which is its own class, with the same vertices; only row 0 has class 0
@@ -123,9 +123,9 @@ pub record Apart (row related r : Set) : Type 0 where
   pub first : (v : ℕ) → Has row v → v ≢ 0 → Has r v
   pub others : Has related 0 → Has r 0
 
--- the numbers of a chart's steps, and a relation with a row for each of its vertices
+-- the steps of a chart, and a relation with a row for each of its vertices
 pub record Stepped (keys words : List ℕ) (m rows : ℕ) (relation : List ℕ) : Type 0 where
-  pub coded : Coded keys words m
+  pub listed : Listed keys words m
   pub targets : (k : ℕ) → k < m → rowAt keys k < rows
   pub end : (k : ℕ) → ¬ On (getD words 0 0) k
   pub whole : length relation ≡ 16 * rows
@@ -150,8 +150,3 @@ pub record Suspected (into acting all any body begins relation : List ℕ) (rela
   pub first : (v : ℕ) → Related relation 0 v → v ≢ 0 → Has r v
   pub end : Has related 0 → Has r 0
   pub others : (v : ℕ) → Has related v → ¬ Has r v → PassesAt into acting all any body begins v
-
--- each related pair of a vertex outside the set passes by the tables
-abbrev pub Unsuspected : (into acting words body relation : List ℕ) → Set → Type 0
-Unsuspected into acting words body relation r = (u v : ℕ) → Related relation u v → ¬ Has r v
-    → Clear into acting words body u v

@@ -24,12 +24,15 @@ use tables::columns;
 use tables::used;
 use tables::users;
 ghost use mathlib.Core.Path.{_≡_};
-ghost use Prim.Native.Nat.{_*_, _≤_, _<_};
+ghost use mathlib.Core.Bool.{true};
+ghost use mathlib.Core.Logic.{_↔_};
+ghost use Prim.Native.Nat.{ℕ, _*_, _≤_, _<_};
 ghost use lib.ListN.{length};
 ghost use Rattle.chart.specs.Checks.{checkOf};
 ghost use Rattle.chart.specs.Leaving.{Begins};
 ghost use Rattle.bisimulation.specs.Relations.{openingOf};
-ghost use Rattle.bisimulation.specs.Answers.{StrayAnswer, SomeChart, PairsAnswer};
+ghost use Rattle.bisimulation.specs.Answers.{StrayBit, StrayAnswer, SomeListed, SomeNumbered};
+ghost use Rattle.bisimulation.specs.Answers.{Doubtful, PairsAnswer};
 
 // 41: the first bit for a vertex of V or above, by row and then by column.
 fn strays(body: &[u8], relation: &[u8], rows: usize) -> Stage
@@ -48,6 +51,20 @@ fn strays(body: &[u8], relation: &[u8], rows: usize) -> Stage
     Stage::Passed
 }
 
+// Whether no row has a bit for a vertex of V or above, by all rows at once.
+fn all_inside(body: &[u8], relation: &[u8], rows: usize) -> bool
+    requires { ⌜ (checkOf (now body) ≡ Stage.Passed) × (length (now relation) ≡ 16 * rows) ⌝ }
+    ensures { λ r. ⌜ (r ≡ true) ↔ ((u v : ℕ) → ¬ StrayBit (now (body .entry)) (now (relation .entry)) u v) ⌝ }
+{
+    let mut all = Set::empty();
+    let mut u: usize = 0;
+    while u < rows {
+        all = all.union(read_row(relation, u));
+        u += 1;
+    }
+    all.difference(Set::below(byte(body, 0))).is_empty()
+}
+
 // 40, 41 and 42, which ask only for the number of rows and the start.
 pub fn opening(vertices: usize, start: usize, body: &[u8], relation: &[u8]) -> Stage
     requires { ⌜ (checkOf (now body) ≡ Stage.Passed) × (vertices ≤ 128) × (start < vertices) ⌝ }
@@ -56,10 +73,9 @@ pub fn opening(vertices: usize, start: usize, body: &[u8], relation: &[u8]) -> S
     if relation.len() != 16 * vertices {
         return Stage::Refused(Place::RelationLength(relation.len()));
     }
-    let answer = strays(body, relation, vertices);
-    let Stage::Passed = answer else {
-        return answer;
-    };
+    if !all_inside(body, relation, vertices) {
+        return strays(body, relation, vertices);
+    }
     let q = byte(body, 1);
     if !read_row(relation, start).contains(q) {
         return Stage::Refused(Place::PairStarts(start, q));
@@ -67,8 +83,8 @@ pub fn opening(vertices: usize, start: usize, body: &[u8], relation: &[u8]) -> S
     Stage::Passed
 }
 
-// 43 to 45, where 40 to 42 pass: of all rows of a vertex at once, and where that does not do, of its rows one by one.
-fn check_by_tables(
+// The chart vertices that 43 to 45 may refuse, found by tables: for all rows of a vertex at once.
+fn doubtful_by_tables(
     keys: &[usize; 128],
     words: &[u64; 128],
     m: usize,
@@ -76,11 +92,11 @@ fn check_by_tables(
     body: &[u8],
     begins: &[usize; 129],
     relation: &[u8],
-) -> Stage
+) -> Set
     requires { ⌜ (checkOf (now body) ≡ Stage.Passed)
         × Begins (now body) (now begins)
-        × SomeChart (now keys) (now words) m vertices (now body) (now relation) ⌝ }
-    ensures { λ r. ⌜ PairsAnswer (now (keys .entry)) (now (words .entry)) m vertices
+        × SomeListed (now keys) (now words) m vertices (now body) (now relation) ⌝ }
+    ensures { λ r. ⌜ Doubtful (now (keys .entry)) (now (words .entry)) m vertices
         (now (body .entry)) (now (relation .entry)) r ⌝ }
 {
     let mut into = [0u64; 128];
@@ -99,7 +115,7 @@ fn check_by_tables(
         &mut any,
     );
     let until = runs(&into, body);
-    let suspects = suspects(
+    suspects(
         &into,
         &acting,
         &all,
@@ -109,18 +125,34 @@ fn check_by_tables(
         begins,
         relation,
         related,
-    );
-    if suspects.is_empty() {
-        return Stage::Passed;
-    }
-    let columns = columns(relation, vertices, suspects);
-    let users = users(words, vertices);
-    let used = used(words, vertices);
-    let table = gather(&columns, &into, &acting, &users, used, &until, body, begins);
-    search(&into, &acting, words, &table, body, begins, vertices)
+    )
 }
 
-// 43 to 45, where 40 to 42 pass. The expression's chart is given by the numbers of its steps: it is not written.
+// The chart vertices that 43 to 45 may refuse, where 40 to 42 pass: every pair of another vertex passes. The
+// expression's chart is given by its steps, in any order: it is not written.
+pub fn doubtful(
+    keys: &[usize; 128],
+    words: &[u64; 128],
+    m: usize,
+    vertices: usize,
+    body: &[u8],
+    begins: &[usize; 129],
+    relation: &[u8],
+) -> Set
+    requires { ⌜ (checkOf (now body) ≡ Stage.Passed)
+        × Begins (now body) (now begins)
+        × SomeListed (now keys) (now words) m vertices (now body) (now relation) ⌝ }
+    ensures { λ r. ⌜ Doubtful (now (keys .entry)) (now (words .entry)) m vertices
+        (now (body .entry)) (now (relation .entry)) r ⌝ }
+{
+    if small_passes(keys, words, vertices, body, begins, relation) {
+        return Set::empty();
+    }
+    doubtful_by_tables(keys, words, m, vertices, body, begins, relation)
+}
+
+// 43 to 45, where 40 to 42 pass and every pair outside the suspects does: the rows of the suspects are looked through.
+// The steps are in order here: the place of 44 needs it.
 pub fn check_pairs(
     keys: &[usize; 128],
     words: &[u64; 128],
@@ -129,15 +161,33 @@ pub fn check_pairs(
     body: &[u8],
     begins: &[usize; 129],
     relation: &[u8],
+    suspects: Set,
 ) -> Stage
     requires { ⌜ (checkOf (now body) ≡ Stage.Passed)
         × Begins (now body) (now begins)
-        × SomeChart (now keys) (now words) m vertices (now body) (now relation) ⌝ }
+        × SomeNumbered (now keys) (now words) m vertices (now body) (now relation) suspects ⌝ }
     ensures { λ r. ⌜ PairsAnswer (now (keys .entry)) (now (words .entry)) m vertices
-        (now (body .entry)) (now (relation .entry)) r ⌝ }
+        (now (body .entry)) (now (relation .entry)) suspects r ⌝ }
 {
-    if small_passes(keys, words, vertices, body, begins, relation) {
-        return Stage::Passed;
-    }
-    check_by_tables(keys, words, m, vertices, body, begins, relation)
+    let mut into = [0u64; 128];
+    let mut acting = [0u64; 256];
+    let mut all = [18446744073709551615u64; 128];
+    let mut any = [0u64; 128];
+    fill_tables(
+        keys,
+        words,
+        m,
+        vertices,
+        relation,
+        &mut into,
+        &mut acting,
+        &mut all,
+        &mut any,
+    );
+    let until = runs(&into, body);
+    let columns = columns(relation, vertices, suspects);
+    let users = users(words, vertices);
+    let used = used(words, vertices);
+    let table = gather(&columns, &into, &acting, &users, used, &until, body, begins);
+    search(&into, &acting, words, &table, body, begins, vertices)
 }

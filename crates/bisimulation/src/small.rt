@@ -35,13 +35,11 @@ fn with_fitting(
         × Related (now (relation .entry)) (rowAt (now (keys .entry)) k) w)) ⌝ }
 {
     let key = keys[k];
-    if key / 256 != action {
-        return found;
+    let fits = (key / 256 == action) & read_row(relation, key % 256).contains(w);
+    if fits {
+        return with_bit(found, k);
     }
-    if !read_row(relation, key % 256).contains(w) {
-        return found;
-    }
-    with_bit(found, k)
+    found
 }
 
 // The steps of a word that match transition i.

@@ -3,10 +3,13 @@ ghost use mathlib.Core.Path.{_≡_};
 ghost use Prim.Native.Nat.{_+_, _≤_, _<_};
 ghost use lib.ListN.{length};
 ghost use Rattle.expression.specs.Body.{bodyOf};
+ghost use Rattle.expression.specs.Targets.{Targets};
 ghost use Rattle.bisimulation.specs.Relations.{relationOf};
+ghost use Rattle.bisimulation.specs.Answers.{PassOutside};
 ghost use Rattle.chart.specs.Leaving.{Begins};
 ghost use Rattle.verdict.specs.Files.{recordStage, recordsOf, offsetOf, bodyAt};
 ghost use Rattle.verdict.specs.Verdicts.{verdictOf, BothPass, ComeToPairs};
+use bits::Set;
 use bits::byte;
 use bits::read_u16;
 use report::Labelled;
@@ -80,26 +83,71 @@ fn body(file: &[u8], k: usize) -> &[u8]
     &file[start..end]
 }
 
-// The refusals 43 to 45, against the expression's chart, where 40 to 42 pass.
-fn check_numbered_pairs(
+// The refusals 43 to 45 where every pair of a chart vertex outside the suspects passes: the steps of the expression's
+// chart are put in order, since the place of 44 is that of a transition.
+fn search_pairs(
     nodes: &[u8],
     vertices: usize,
     chart: &[u8],
     begins: &[usize; 129],
     relation: &[u8],
+    suspects: Set,
 ) -> Stage
-    requires { ⌜ ComeToPairs (now nodes) vertices (now chart) (now relation) × Begins (now chart) (now begins) ⌝ }
+    requires { ⌜ ComeToPairs (now nodes) vertices (now chart) (now relation)
+        × Begins (now chart) (now begins)
+        × PassOutside (bodyOf (now nodes)) (now chart) (now relation) suspects ⌝ }
     ensures { λ r. ⌜ r ≡ relationOf (bodyOf (now (nodes .entry))) (now (chart .entry)) (now (relation .entry)) ⌝ }
 {
     let mut keys = [0usize; 128];
     let mut words = [0u64; 128];
     let m = expression::number_steps(nodes, &mut keys, &mut words);
-    bisimulation::check_pairs(&keys, &words, m, vertices, chart, begins, relation)
+    bisimulation::check_pairs(
+        &keys,
+        &words,
+        m,
+        vertices,
+        chart,
+        begins,
+        relation,
+        suspects,
+    )
+}
+
+// The refusals 43 to 45, against the expression's chart, where 40 to 42 pass.
+fn check_listed_pairs<'a>(
+    nodes: &'a [u8],
+    targets: &'a [u8; 128],
+    vertices: usize,
+    chart: &[u8],
+    begins: &[usize; 129],
+    relation: &[u8],
+) -> Stage
+    requires { ⌜ ComeToPairs (now nodes) vertices (now chart) (now relation)
+        × Targets (now nodes) (now targets)
+        × Begins (now chart) (now begins) ⌝ }
+    ensures { λ r. ⌜ r ≡ relationOf (bodyOf (now (nodes .entry))) (now (chart .entry)) (now (relation .entry)) ⌝ }
+{
+    let mut keys = [0usize; 128];
+    let mut words = [0u64; 128];
+    let m = expression::list_steps(nodes, targets, &mut keys, &mut words);
+    let suspects = bisimulation::doubtful(&keys, &words, m, vertices, chart, begins, relation);
+    if suspects.is_empty() {
+        return Stage::Passed;
+    }
+    search_pairs(nodes, vertices, chart, begins, relation, suspects)
 }
 
 // The refusals 40 to 45, against the expression's chart, which is not written.
-fn check_relation(nodes: &[u8], chart: &[u8], begins: &[usize; 129], relation: &[u8]) -> Stage
-    requires { ⌜ BothPass (now nodes) (now chart) × Begins (now chart) (now begins) ⌝ }
+fn check_relation<'a>(
+    nodes: &'a [u8],
+    targets: &'a [u8; 128],
+    chart: &[u8],
+    begins: &[usize; 129],
+    relation: &[u8],
+) -> Stage
+    requires { ⌜ BothPass (now nodes) (now chart)
+        × Targets (now nodes) (now targets)
+        × Begins (now chart) (now begins) ⌝ }
     ensures { λ r. ⌜ r ≡ relationOf (bodyOf (now (nodes .entry))) (now (chart .entry)) (now (relation .entry)) ⌝ }
 {
     let n = nodes.len() / 4;
@@ -107,7 +155,7 @@ fn check_relation(nodes: &[u8], chart: &[u8], begins: &[usize; 129], relation: &
     let Stage::Passed = stage else {
         return stage;
     };
-    check_numbered_pairs(nodes, n + 1, chart, begins, relation)
+    check_listed_pairs(nodes, targets, n + 1, chart, begins, relation)
 }
 
 // A stage's refusal as the verdict's.
@@ -143,7 +191,8 @@ pub fn check(file: &[u8]) -> Verdict
         return refusal(stage);
     };
     let nodes = body(file, 0);
-    let stage = expression::check(nodes);
+    let mut targets = [255u8; 128];
+    let stage = expression::check_with_targets(nodes, &mut targets);
     let Stage::Passed = stage else {
         return refusal(stage);
     };
@@ -157,7 +206,7 @@ pub fn check(file: &[u8]) -> Verdict
     let Labelled::Passed(loops) = labelled else {
         return unlabelled(labelled);
     };
-    let stage = check_relation(nodes, chart, &begins, body(file, 3));
+    let stage = check_relation(nodes, &targets, chart, &begins, body(file, 3));
     let Stage::Passed = stage else {
         return refusal(stage);
     };

@@ -15,20 +15,20 @@ mul-if1 c = search needs
 returns : tie.Need-returns
 returns c = opening-40 _ _ _ _ (c .if1 .taken)
 
+all-inside-requires : tie.Need-all-inside-requires
+all-inside-requires c κs = search needs
+
 strays-requires : tie.Need-strays-requires
 strays-requires c κs = search needs
 
-enum-told : tie.Need-enum-told
-enum-told c = search needs
-
-enum-told-2 : tie.Need-enum-told-2
-enum-told-2 c = search needs
-
 returns-2 : tie.Need-returns-2
-returns-2 c = opening-41 _ _ _ _ (c .before .before .before .if1 .left) (c .before .before .strays .ensures) (c .enum-told2 .given .1)
+returns-2 c =
+    let d = c .before .before in
+    opening-41 _ _ _ _ (d .before .if1 .left) (c .strays .ensures)
+    (λ n. false≢true (sym (not-true _ (c .before .if2 .taken)) ∙ d .all-inside .ensures .1 n))
 
 byte-requires : tie.Need-byte-requires
-byte-requires c κs = let l = well-formed _ (c .before .before .before .before .before .before .pre .0) .header .long in omega arith
+byte-requires c κs = let l = well-formed _ (c .before .before .before .before .before .pre .0) .header .long in omega arith
 
 read-row-requires : tie.Need-read-row-requires
 read-row-requires c κs = search needs
@@ -38,15 +38,19 @@ contains-requires c κs = search needs
 
 returns-3 : tie.Need-returns-3
 returns-3 c =
+    let d = c .before .before .before in
     let M = c .before .before .read-row .ensures in
-    opening-42 _ _ _ _ (c .before .before .before .before .before .before .before .if1 .left) (c .before .before .before .before .before .before .strays .ensures) (c .before .before .before .before .enum-told .given .1) (c .before .before .before .byte .ensures .0)
-    (λ r. false≢true (sym (not-true _ (c .if2 .taken)) ∙ c .before .contains .ensures .1 (has-related _ _ M _ .1 r)))
+    opening-42 _ _ _ _ (d .before .before .before .if1 .left)
+    (d .before .before .all-inside .ensures .0 (not-false _ (d .before .if2 .left))) (d .byte .ensures .0)
+    (λ r. false≢true (sym (not-true _ (c .if3 .taken)) ∙ c .before .contains .ensures .1 (has-related _ _ M _ .1 r)))
 
 returns-4 : tie.Need-returns-4
 returns-4 c =
+    let d = c .before .before .before in
     let M = c .before .before .read-row .ensures in
-    opening-passed _ _ _ _ (c .before .before .before .before .before .before .before .if1 .left) (c .before .before .before .before .before .before .strays .ensures) (c .before .before .before .before .enum-told .given .1) (c .before .before .before .byte .ensures .0)
-    (has-related _ _ M _ .0 (c .before .contains .ensures .0 (not-false _ (c .if2 .left))))
+    opening-passed _ _ _ _ (d .before .before .before .if1 .left)
+    (d .before .before .all-inside .ensures .0 (not-false _ (d .before .if2 .left))) (d .byte .ensures .0)
+    (has-related _ _ M _ .0 (c .before .contains .ensures .0 (not-false _ (c .if3 .left))))
 
 pub opening-spec : {M : Type 1} → statement M
 opening-spec =
@@ -54,9 +58,8 @@ opening-spec =
     (tie.spec
     mul-if1
     returns
+    all-inside-requires
     strays-requires
-    enum-told
-    enum-told-2
     returns-2
     byte-requires
     read-row-requires

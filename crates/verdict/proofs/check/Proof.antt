@@ -36,8 +36,8 @@ body-requires a κs =
     let R = sym (a .before .before .records .ensures) ∙ a .enum-told .given .1 in
     (R, omega arith)
 
-check-requires : tie.Need-check-requires
-check-requires c κs = search needs
+check-with-targets-requires : tie.Need-check-with-targets-requires
+check-with-targets-requires c κs = search needs
 
 enum-told-3 : tie.Need-enum-told-3
 enum-told-3 c = search needs
@@ -52,20 +52,20 @@ returns-2 : tie.Need-returns-2
 returns-2 c =
     let t = c .before in
     let k = t .before .before in
-    let a = k .before .before in
+    let a = k .before .before .before in
     let R = sym (a .before .before .records .ensures) ∙ a .enum-told .given .1 in
     let h = t .enum-told4 .given .1 in
-    let N = stage-in expression.checkOf (k .before .body .ensures) (k .check .ensures) h in
+    let N = stage-in expression.checkOf (k .before .before .body .ensures) (k .check-with-targets .ensures .0) h in
     c .refusal2 .ensures _ h ∙ sym (fails-refused _ (nodes-fail R N))
 
 body-requires-2 : tie.Need-body-requires-2
 body-requires-2 b κs =
-    let a = b .before .before .before .before in
+    let a = b .before .before .before .before .before in
     let R = sym (a .before .before .records .ensures) ∙ a .enum-told .given .1 in
     (R, omega arith)
 
-check-requires-2 : tie.Need-check-requires-2
-check-requires-2 c κs = search needs
+check-requires : tie.Need-check-requires
+check-requires c κs = search needs
 
 enum-told-5 : tie.Need-enum-told-5
 enum-told-5 c = search needs
@@ -82,28 +82,28 @@ returns-3 c =
     let m = d .before .before in
     let b = m .before .before in
     let k = b .before .before in
-    let a = k .before .before in
+    let a = k .before .before .before in
     let R = sym (a .before .before .records .ensures) ∙ a .enum-told .given .1 in
-    let N = stage-in expression.checkOf (k .before .body .ensures) (k .check .ensures) (b .enum-told3 .given .1) in
+    let N = stage-in expression.checkOf (k .before .before .body .ensures) (k .check-with-targets .ensures .0) (b .enum-told3 .given .1) in
     let h = d .enum-told6 .given .1 in
-    let C = stage-in chart.checkOf (m .before .body2 .ensures) (m .check2 .ensures) h in
+    let C = stage-in chart.checkOf (m .before .body2 .ensures) (m .check .ensures) h in
     c .refusal3 .ensures _ h ∙ sym (fails-refused _ (chart-fails R N C))
 
 begins-requires : tie.Need-begins-requires
-begins-requires d κs = sym (d .before .before .check2 .ensures) ∙ d .enum-told5 .given .1
+begins-requires d κs = sym (d .before .before .check .ensures) ∙ d .enum-told5 .given .1
 
 body-requires-3 : tie.Need-body-requires-3
 body-requires-3 c κs =
     let d = c .before in
-    let a = d .before .before .before .before .before .before .before .before in
+    let a = d .before .before .before .before .before .before .before .before .before in
     let R = sym (a .before .before .records .ensures) ∙ a .enum-told .given .1 in
     (R, omega arith)
 
-check-requires-3 : tie.Need-check-requires-3
-check-requires-3 c κs =
+check-requires-2 : tie.Need-check-requires-2
+check-requires-2 c κs =
     let s = c .before .before in
     let d = s .before in
-    (sym (d .before .before .check2 .ensures) ∙ d .enum-told5 .given .1, s .begins .ensures)
+    (sym (d .before .before .check .ensures) ∙ d .enum-told5 .given .1, s .begins .ensures)
 
 enum-known-labelled : tie.Need-enum-known-labelled
 enum-known-labelled c = search needs
@@ -122,28 +122,31 @@ returns-4 c =
     let m = d .before .before in
     let b = m .before .before in
     let k = b .before .before in
-    let a = k .before .before in
+    let a = k .before .before .before in
     let R = sym (a .before .before .records .ensures) ∙ a .enum-told .given .1 in
-    let N = stage-in expression.checkOf (k .before .body .ensures) (k .check .ensures) (b .enum-told3 .given .1) in
-    let C = stage-in chart.checkOf (m .before .body2 .ensures) (m .check2 .ensures) (d .enum-told5 .given .1) in
+    let N = stage-in expression.checkOf (k .before .before .body .ensures) (k .check-with-targets .ensures .0) (b .enum-told3 .given .1) in
+    let C = stage-in chart.checkOf (m .before .body2 .ensures) (m .check .ensures) (d .enum-told5 .given .1) in
     let h = t .enum-told7 .given .1 in
-    let L = labelling-in _ (m .before .body2 .ensures) (w .before .before .body3 .ensures) (w .check3 .ensures) h in
+    let L = labelling-in _ (m .before .body2 .ensures) (w .before .before .body3 .ensures) (w .check2 .ensures) h in
     c .unlabelled .ensures _ h ∙ sym (fails-refused _ (labels-fail R N C L))
 
 body-requires-4 : tie.Need-body-requires-4
 body-requires-4 c κs =
-    let d = c .before .before .before .before .before .before .before .before in
-    let a = d .before .before .before .before .before .before .before .before in
+    let d = c .before .before .before .before .before .before .before .before .before in
+    let a = d .before .before .before .before .before .before .before .before .before in
     let R = sym (a .before .before .records .ensures) ∙ a .enum-told .given .1 in
     (R, omega arith)
 
 check-relation-requires : tie.Need-check-relation-requires
 check-relation-requires c κs =
-    let s = c .before .before .before .before .before .before .before .before in
+    let s = c .before .before .before .before .before .before .before .before .before in
     let d = s .before in
     let m = d .before .before in
-    let b = m .before .before in (
-      (sym (b .before .before .check .ensures) ∙ b .enum-told3 .given .1, sym (m .check2 .ensures) ∙ d .enum-told5 .given .1),
+    let b = m .before .before in
+    let k = b .before .before in
+    let h = b .enum-told3 .given .1 in (
+      (sym (k .check-with-targets .ensures .0) ∙ h, sym (m .check .ensures) ∙ d .enum-told5 .given .1),
+      k .check-with-targets .ensures .1 h,
       s .begins .ensures,
     )
 
@@ -160,50 +163,50 @@ returns-5 : tie.Need-returns-5
 returns-5 c =
     let t = c .before in
     let r = t .before .before in
-    let e = r .before .before .before in
+    let e = r .before .before .before .before in
     let w = e .before .before .before in
     let d = w .before .before .before .before in
     let m = d .before .before in
     let b = m .before .before in
     let k = b .before .before in
-    let a = k .before .before in
+    let a = k .before .before .before in
     let R = sym (a .before .before .records .ensures) ∙ a .enum-told .given .1 in
-    let N = stage-in expression.checkOf (k .before .body .ensures) (k .check .ensures) (b .enum-told3 .given .1) in
-    let C = stage-in chart.checkOf (m .before .body2 .ensures) (m .check2 .ensures) (d .enum-told5 .given .1) in
-    let L = labelling-in _ (m .before .body2 .ensures) (w .before .before .body3 .ensures) (w .check3 .ensures)
+    let N = stage-in expression.checkOf (k .before .before .body .ensures) (k .check-with-targets .ensures .0) (b .enum-told3 .given .1) in
+    let C = stage-in chart.checkOf (m .before .body2 .ensures) (m .check .ensures) (d .enum-told5 .given .1) in
+    let L = labelling-in _ (m .before .body2 .ensures) (w .before .before .body3 .ensures) (w .check2 .ensures)
     (e .before .labelled .given .1) in
     let h = t .enum-told9 .given .1 in
-    let B = relation-in _ (m .before .body2 .ensures) (k .before .body .ensures) (r .before .body4 .ensures) (r .check-relation .ensures) h in
+    let B = relation-in _ (m .before .body2 .ensures) (k .before .before .body .ensures) (r .before .body4 .ensures) (r .check-relation .ensures) h in
     c .refusal4 .ensures _ h ∙ sym (fails-refused _ (relation-fails R N C L B))
 
 byte-requires : tie.Need-byte-requires
 byte-requires c κs =
-    let d = c .before .before .before .before .before .before .before .before .before .before .before .before in
-    omega (arith, chart-long _ (sym (d .before .before .check2 .ensures) ∙ d .enum-told5 .given .1))
+    let d = c .before .before .before .before .before .before .before .before .before .before .before .before .before in
+    omega (arith, chart-long _ (sym (d .before .before .check .ensures) ∙ d .enum-told5 .given .1))
 
 count-requires : tie.Need-count-requires
 count-requires c κs =
-    let d = c .before .before .before .before .before .before .before .before .before .before .before .before .before in
-    chart-long _ (sym (d .before .before .check2 .ensures) ∙ d .enum-told5 .given .1)
+    let d = c .before .before .before .before .before .before .before .before .before .before .before .before .before .before in
+    chart-long _ (sym (d .before .before .check .ensures) ∙ d .enum-told5 .given .1)
 
 returns-6 : tie.Need-returns-6
 returns-6 c =
     let g = c .before .before in
     let r = g .before .before in
-    let e = r .before .before .before in
+    let e = r .before .before .before .before in
     let w = e .before .before .before in
     let d = w .before .before .before .before in
     let m = d .before .before in
     let b = m .before .before in
     let k = b .before .before in
-    let a = k .before .before in
+    let a = k .before .before .before in
     let R = sym (a .before .before .records .ensures) ∙ a .enum-told .given .1 in
-    let N = stage-in expression.checkOf (k .before .body .ensures) (k .check .ensures) (b .enum-told3 .given .1) in
-    let C = stage-in chart.checkOf (m .before .body2 .ensures) (m .check2 .ensures) (d .enum-told5 .given .1) in
-    let L = labelling-in _ (m .before .body2 .ensures) (w .before .before .body3 .ensures) (w .check3 .ensures)
+    let N = stage-in expression.checkOf (k .before .before .body .ensures) (k .check-with-targets .ensures .0) (b .enum-told3 .given .1) in
+    let C = stage-in chart.checkOf (m .before .body2 .ensures) (m .check .ensures) (d .enum-told5 .given .1) in
+    let L = labelling-in _ (m .before .body2 .ensures) (w .before .before .body3 .ensures) (w .check2 .ensures)
     (e .before .labelled .given .1) in
     let h = g .enum-told8 .given .1 in
-    let B = relation-in _ (m .before .body2 .ensures) (k .before .body .ensures) (r .before .body4 .ensures) (r .check-relation .ensures) h in
+    let B = relation-in _ (m .before .body2 .ensures) (k .before .before .body .ensures) (r .before .body4 .ensures) (r .check-relation .ensures) h in
     let v = c .before .byte .ensures .0 ∙ ap verticesOf (m .before .body2 .ensures) in
     let t = c .count .ensures .0 ∙ ap countOf (m .before .body2 .ensures) in
     sym (accepted-iff _ _ _ _ .1 (R, N, C, L, B, v, t))
@@ -218,20 +221,20 @@ check-spec =
     refusal-requires
     returns
     body-requires
-    check-requires
+    check-with-targets-requires
     enum-told-3
     enum-told-4
     refusal-requires-2
     returns-2
     body-requires-2
-    check-requires-2
+    check-requires
     enum-told-5
     enum-told-6
     refusal-requires-3
     returns-3
     begins-requires
     body-requires-3
-    check-requires-3
+    check-requires-2
     enum-known-labelled
     enum-told-7
     unlabelled-requires

@@ -24,15 +24,15 @@ returns c =
     let n = c .before .before .before .before .before .before .args .nodes .now in
     opening-refused (bodyOf n) _ _ _ _ (nodes-vertices n) (nodes-start n) (c .before .before .opening .ensures) (c .enum-told2 .given .1)
 
-add-check-numbered-pairs : tie.Need-add-check-numbered-pairs
-add-check-numbered-pairs c = search needs
+add-check-listed-pairs : tie.Need-add-check-listed-pairs
+add-check-listed-pairs c = search needs
 
-check-numbered-pairs-requires : tie.Need-check-numbered-pairs-requires
-check-numbered-pairs-requires c κs =
+check-listed-pairs-requires : tie.Need-check-listed-pairs-requires
+check-listed-pairs-requires c κs =
     let k = c .before .before .before .before .before .before in
     let n = k .args .nodes .now in
     let (F, S) = opening-passes (bodyOf n) _ _ _ _ (nodes-vertices n) (nodes-start n) (c .before .before .opening .ensures) (c .enum-told .given .1) in
-    (record { both = k .pre .0; is-number = sym (nodes-vertices n); fits = F; starts = S }, k .pre .1)
+    (record { both = k .pre .0; is-number = sym (nodes-vertices n); fits = F; starts = S }, k .pre .1, k .pre .2)
 
 returns-2 : tie.Need-returns-2
 returns-2 c = search needs
@@ -46,6 +46,6 @@ check-relation-spec =
     enum-told
     enum-told-2
     returns
-    add-check-numbered-pairs
-    check-numbered-pairs-requires
+    add-check-listed-pairs
+    check-listed-pairs-requires
     returns-2)

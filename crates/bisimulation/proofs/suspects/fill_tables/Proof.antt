@@ -19,9 +19,9 @@ join-rows-requires c κs =
       classed T (d .before .before .before .before .classes .ensures),
       d .tabulate .ensures .0,
       d .tabulate .ensures .1,
-      T .coded .words-long,
+      T .listed .words-long,
       T .few,
-      T .coded .known,
+      T .listed .known,
       refl,
       refl,
     )
