@@ -115,7 +115,12 @@ module _ {e keys words : List ℕ} {m : ℕ} (W : WellFormed e) (N : Numbered e 
         by-cases (ℕ-discrete (getD words x 0 / 2 ^ k % 2) 1) (with-bit b Q) (without-bit b Q))
         (λ b.
         rw (bit-uncounted (getD words x 0) k (λ on. b (N .coded .listed .known x k on)))
-        (climb k n (record { low = S .low; high = S .high; before = λ j l c. S .before j (omega arith) c; after = λ j l c. absurd (omega arith) })))
+        (climb k n (record {
+          low = S .low;
+          high = S .high;
+          before = λ j l c. S .before j (omega arith) c;
+          after = λ j l c. absurd (omega arith);
+        })))
       where
         with-bit : k < m → KeysSplit e (65536 * x + getD keys k 0) (at + bitsBelow (getD words x 0) k) → On (getD words x 0) k → KeysSplit e n (at + bitsBelow (getD words x 0) (suc k))
         with-bit b Q on =

@@ -33,7 +33,8 @@ pub settles-none : {a after : List ℕ} {P : ℕ → Type 0} {s : Set} → Settl
 settles-none S = record { long = refl; settled = S; more = λ x h. h; within = λ x h. inl h; others = λ x n. refl }
 
 -- w leads to settled vertices alone, and its set becomes what these reach
-module _ {a after : List ℕ} {w : ℕ} {s all r : Set} (l : w < 128) (long : 2 * w + 2 ≤ length after) (S : Settled a after s) (new : ¬ Has s w)
+module _ {a after : List ℕ} {w : ℕ} {s all r : Set} (l : w < 128) (long : 2 * w + 2 ≤ length after)
+    (S : Settled a after s) (new : ¬ Has s w)
     (to : (x : ℕ) → HasRow a w x → Has s x) (M : Members (FromSet (Leads a) (rowOf a w)) all)
     (W : (y : ℕ) → Has r y ↔ (Has s y ⊎ (y ≡ w))) where
   off-cycle : ¬ OnCycle a w
@@ -118,16 +119,23 @@ settled-but {n = n} {s = s} {left} {t} few M D f S = record {
     in-all x h m = elim (has? s x) [ yes k ↦ k | no k ↦ absurd (m (D x .1 (M .exactly x (omega (arith, h, few)) .1 h, k))) ]
 
 -- `cycle_by_rounds`
-pub rounds-passed : {a before after : List ℕ} {n : ℕ} {left : Set} → SettledBut a n before left after → Empty left → Cycles a n before n after
+pub rounds-passed : {a before after : List ℕ} {n : ℕ} {left : Set} → SettledBut a n before left after
+    → Empty left → Cycles a n before n after
 rounds-passed S E = record {
   long = S .long;
-  first = record { from = omega arith; within = omega arith; before = λ x p h. S .acyclic x h (E x); holds = λ h. absurd (omega (arith, h)) };
+  first = record {
+    from = omega arith;
+    within = omega arith;
+    before = λ x p h. S .acyclic x h (E x);
+    holds = λ h. absurd (omega (arith, h));
+  };
   known = λ f. record { exactly = λ x y p h l. S .known x y h (E x) };
   others = λ f. S .others;
   cleared = λ h. absurd (omega (arith, h));
 }
 
-pub rounds-again : {a before between after : List ℕ} {n r : ℕ} {left : Set} → SettledBut a n before left between → Cycles a n between r after
+pub rounds-again : {a before between after : List ℕ} {n r : ℕ} {left : Set} → SettledBut a n before left between
+    → Cycles a n between r after
     → Cycles a n before r after
 rounds-again S C = record {
   long = C .long ∙ S .long;

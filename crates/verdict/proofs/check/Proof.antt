@@ -176,7 +176,8 @@ returns-5 c =
     let L = labelling-in _ (m .before .body2 .ensures) (w .before .before .body3 .ensures) (w .check2 .ensures)
     (e .before .labelled .given .1) in
     let h = t .enum-told9 .given .1 in
-    let B = relation-in _ (m .before .body2 .ensures) (k .before .before .body .ensures) (r .before .body4 .ensures) (r .check-relation .ensures) h in
+    let B = relation-in _ (m .before .body2 .ensures) (k .before .before .body .ensures)
+    (r .before .body4 .ensures) (r .check-relation .ensures) h in
     c .refusal4 .ensures _ h ∙ sym (fails-refused _ (relation-fails R N C L B))
 
 byte-requires : tie.Need-byte-requires
@@ -206,7 +207,8 @@ returns-6 c =
     let L = labelling-in _ (m .before .body2 .ensures) (w .before .before .body3 .ensures) (w .check2 .ensures)
     (e .before .labelled .given .1) in
     let h = g .enum-told8 .given .1 in
-    let B = relation-in _ (m .before .body2 .ensures) (k .before .before .body .ensures) (r .before .body4 .ensures) (r .check-relation .ensures) h in
+    let B = relation-in _ (m .before .body2 .ensures) (k .before .before .body .ensures)
+    (r .before .body4 .ensures) (r .check-relation .ensures) h in
     let v = c .before .byte .ensures .0 ∙ ap verticesOf (m .before .body2 .ensures) in
     let t = c .count .ensures .0 ∙ ap countOf (m .before .body2 .ensures) in
     sym (accepted-iff _ _ _ _ .1 (R, N, C, L, B, v, t))

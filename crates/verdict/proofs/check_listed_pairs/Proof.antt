@@ -17,7 +17,8 @@ doubtful-requires c κs =
       k .pre .2,
       (
         bodyOf (k .args .nodes .now),
-        listed-chart (λ i. omega (arith, c .before .before .before .before .before .before .before .shared-slice-known .given i)) (k .pre .0)
+        listed-chart (λ i. omega (arith, c .before .before .before .before .before .before .before .shared-slice-known .given i))
+            (k .pre .0)
             (c .before .before .list-steps .ensures),
       ),
     )
@@ -29,7 +30,8 @@ returns : tie.Need-returns
 returns c =
     let d = c .before .before in
     let k = d .before .before .before .before .before .before .before .before .before in
-    let L = listed-chart (λ i. omega (arith, d .before .before .before .before .before .before .before .before .shared-slice-known .given i)) (k .pre .0)
+    let L = listed-chart
+    (λ i. omega (arith, d .before .before .before .before .before .before .before .before .shared-slice-known .given i)) (k .pre .0)
     (d .before .before .before .list-steps .ensures) in
     none-doubtful L (d .doubtful .ensures (bodyOf (k .args .nodes .now)) L) (c .before .is-empty .ensures .0 (c .if1 .taken))
 
@@ -37,7 +39,8 @@ search-pairs-requires : tie.Need-search-pairs-requires
 search-pairs-requires c κs =
     let d = c .before .before in
     let k = d .before .before .before .before .before .before .before .before .before in
-    let L = listed-chart (λ i. omega (arith, d .before .before .before .before .before .before .before .before .shared-slice-known .given i)) (k .pre .0)
+    let L = listed-chart
+    (λ i. omega (arith, d .before .before .before .before .before .before .before .before .shared-slice-known .given i)) (k .pre .0)
     (d .before .before .before .list-steps .ensures) in
     (k .pre .0, k .pre .2, d .doubtful .ensures (bodyOf (k .args .nodes .now)) L)
 

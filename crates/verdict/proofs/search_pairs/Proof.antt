@@ -16,7 +16,8 @@ check-pairs-requires c κs =
       k .pre .1,
       (
         bodyOf (k .args .nodes .now),
-        numbered-chart (λ i. omega (arith, c .before .before .before .before .before .before .before .shared-slice-known .given i)) (k .pre .0)
+        numbered-chart (λ i. omega (arith, c .before .before .before .before .before .before .before .shared-slice-known .given i))
+            (k .pre .0)
             (c .before .before .number-steps .ensures),
         k .pre .2,
       ),
@@ -26,7 +27,8 @@ returns : tie.Need-returns
 returns c =
     let k = c .before .before .before .before .before .before .before .before .before in
     c .check-pairs .ensures (bodyOf (k .args .nodes .now))
-    (numbered-chart (λ i. omega (arith, c .before .before .before .before .before .before .before .before .shared-slice-known .given i)) (k .pre .0)
+    (numbered-chart
+    (λ i. omega (arith, c .before .before .before .before .before .before .before .before .shared-slice-known .given i)) (k .pre .0)
     (c .before .before .before .number-steps .ensures))
     (k .pre .2)
 

@@ -34,7 +34,8 @@ Steps r = StepsOf (Body r) (Labels r)
 given : (r : tie.After-byte) → Given (Body r) (Labels r) (start r .args .begins .now)
 given r = start r .pre .0
 
-room : (r : tie.After-byte) → Room (Steps r) (verticesOf (Body r)) (start r .args .top) (start r .args .next .now) (start r .args .branches .now)
+room : (r : tie.After-byte) → Room (Steps r) (verticesOf (Body r)) (start r .args .top) (start r .args .next .now)
+    (start r .args .branches .now)
     (start r .args .entries .now) (start r .args .high .now)
 room r = start r .pre .2
 
@@ -140,9 +141,15 @@ loops-check-requires c κs =
         of-after = rw (r .byte .ensures .0) at (C .known (omega (arith, C .first .within, none .if2 .left)));
         acyclic = acyclic (formed r) (on-cycle k) (omega (arith, r .byte .ensures .0, none .if2 .left));
         of-entries = tables .of-entries;
-        of-low = c .before .before .before .before .before .before .before .lowest-levels .ensures _ _ (given r .passed) (bytes r) (tables .of-entered);
+        of-low = c .before .before .before .before .before .before .before .lowest-levels .ensures _ _
+            (given r .passed) (bytes r) (tables .of-entered);
         of-levels = levels-of (formed r) (bytes r) (tables .of-entered) (c .before .before .before .before .before .join-later .ensures);
-        levels-fit = λ i h. omega (arith, highest k .above i, R .for-levels, c .before .before .before .before .before .join-later .ensures .long);
+        levels-fit = λ i h. omega (
+          arith,
+          highest k .above i,
+          R .for-levels,
+          c .before .before .before .before .before .join-later .ensures .long,
+        );
       },
     )
 
@@ -185,7 +192,8 @@ returns-4 c =
     answer-passed _ _ (formed r) (bytes r) (given r .long) (unreached u) (all-reached k) (on-cycle k)
     (omega (arith, r .byte .ensures .0, none .if2 .left))
     (subst (LoopsSaid _) (c .enum-told .given .1) (l .loops-check .ensures))
-    (l .before .before .before .before .before .before .before .before .before .before .before .count-loops .ensures _ _ (given r .passed) (bytes r) (room r .collected .of-entered))
+    (l .before .before .before .before .before .before .before .before .before .before .before .count-loops .ensures _ _
+    (given r .passed) (bytes r) (room r .collected .of-entered))
 
 pub check-by-spec : {M : Type 1} → statement M
 check-by-spec =

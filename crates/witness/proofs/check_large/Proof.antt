@@ -40,8 +40,12 @@ check-by-requires : tie.Need-check-by-requires
 check-by-requires c κs =
     let s = c .before .before .before .before .before .before .before .before .before .before .before .before .before in
     let p = s .before .before .pre in
-    let low = top-below (λ k. omega (arith, s .shared-slice-known2 .given k)) (p .1) in
-    (p .0, p .1, c .before .before .before .before .before .before .before .before .collect .ensures _ (room-by 128 256 (well-formed _ (p .0 .passed) .header .vertices-high) low))
+    let low = top-below (λ k. omega (arith, s .shared-slice-known2 .given k)) (p .1) in (
+      p .0,
+      p .1,
+      c .before .before .before .before .before .before .before .before .collect .ensures _
+          (room-by 128 256 (well-formed _ (p .0 .passed) .header .vertices-high) low),
+    )
 
 returns : tie.Need-returns
 returns c = search needs

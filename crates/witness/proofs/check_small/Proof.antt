@@ -32,7 +32,8 @@ slice-aggregate-check-by-4 c = search needs
 
 check-by-requires : tie.Need-check-by-requires
 check-by-requires c κs =
-    let p = c .before .before .before .before .before .before .before .before .before .before .before .before .before .before .before .pre in
+    let p = c .before .before .before .before .before .before .before .before .before .before .before .before .before .before
+    .before .pre in
     (p .0, p .1, c .before .before .before .before .before .before .before .before .collect .ensures _ (room-by 16 16 (p .2) (p .3)))
 
 returns : tie.Need-returns

@@ -5,7 +5,8 @@ use Prim.Native.Nat.{ℕ, _+_, _*_, _≤_}
 use lib.ListN.{length}
 use borrow.Author.Tests.{not-true, not-false}
 use Rattle.bits.specs.Sets.{Has, sizeOf}
-use Rattle.chart.proofs.Searches.{Joining, join-none, take-one, take-another, lowest-in, lowest-last, join-more, join-less, join-last, join-all}
+use Rattle.chart.proofs.Searches.{Joining, join-none, take-one, take-another, lowest-in, lowest-last}
+use Rattle.chart.proofs.Searches.{join-more, join-less, join-last, join-all}
 use Rattle.chart.proofs.sets.joined_by_two.Statement.{statement}
 use Rattle.chart.proofs.sets.joined_by_two.Tie as tie
 
@@ -46,7 +47,8 @@ returns c =
     let i = l .before .before .before .before .before .loop .inv in
     let F = l .lowest .ensures in
     let O = lowest-last F (W .0) (c .before .if2 .taken) in
-    join-last (i .1) (λ x h. O x h ∙ sym (c .before .if2 .taken)) (lowest-in (W .0 .has) F) (c .before .before .before .row .ensures) (c .union .ensures)
+    join-last (i .1) (λ x h. O x h ∙ sym (c .before .if2 .taken)) (lowest-in (W .0 .has) F)
+    (c .before .before .before .row .ensures) (c .union .ensures)
 
 row-requires-2 : tie.Need-row-requires-2 Inv-loop μ-loop
 row-requires-2 c κs =

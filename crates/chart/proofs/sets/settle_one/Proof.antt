@@ -39,7 +39,8 @@ returns-2 c =
     let k = d .before .before .before .before in
     let p = k .pre in
     let e = d .before .row-or-empty .ensures in
-    let within = all-in (d .difference .ensures) (j .before .before .before .is-empty .ensures .0 (not-false _ (j .before .before .if1 .left))) in
+    let within = all-in (d .difference .ensures)
+    (j .before .before .before .is-empty .ensures .0 (not-false _ (j .before .before .if1 .left))) in
     rw (c .before .before .before .put-row .ensures)
     (settles-one (p .1) (p .2) (p .4) (p .5) (rw e at within)
     (rw e at (j .joined .ensures (k .args .next .now) (reached-part (p .4) within))) (c .with .ensures))

@@ -24,17 +24,26 @@ same-length-4 c = search needs
 
 returns : tie.Need-returns
 returns c = λ top.
-    room-filled (c .before .before .before .before .before .before .before .next .given) (c .before .before .before .before .before .branches .given) (c .before .before .before .entries .given)
+    room-filled (c .before .before .before .before .before .before .before .next .given)
+    (c .before .before .before .before .before .branches .given) (c .before .before .before .entries .given)
     (c .before .entered .given) (c .before .before .before .before .before .before .before .before .collect-singly .ensures)
 
 byte-requires : tie.Need-byte-requires
-byte-requires c κs = let w = well-formed _ (c .before .before .before .before .before .before .before .pre .0 .passed) .header .long in omega arith
+byte-requires c κs =
+    let w = well-formed _ (c .before .before .before .before .before .before .before .pre .0 .passed) .header .long in omega arith
 
 collect-runs-requires : tie.Need-collect-runs-requires
 collect-runs-requires c κs =
     let (G, (top, H, R)) = c .before .before .before .before .before .before .before .before .before .before .before .before .pre in
-    let n = c .before .before .before .before .byte .ensures .0 in
-    (G, n, R .collected, omega (arith, n, R .for-next), omega (arith, n, R .for-branches), omega (arith, n, R .for-entries), levels-room H R)
+    let n = c .before .before .before .before .byte .ensures .0 in (
+      G,
+      n,
+      R .collected,
+      omega (arith, n, R .for-next),
+      omega (arith, n, R .for-branches),
+      omega (arith, n, R .for-entries),
+      levels-room H R,
+    )
 
 same-length-5 : tie.Need-same-length-5
 same-length-5 c = search needs
@@ -50,7 +59,8 @@ same-length-8 c = search needs
 
 returns-2 : tie.Need-returns-2
 returns-2 c = λ top.
-    room-filled (c .before .before .before .before .before .before .before .next2 .given) (c .before .before .before .before .before .branches2 .given) (c .before .before .before .entries2 .given)
+    room-filled (c .before .before .before .before .before .before .before .next2 .given)
+    (c .before .before .before .before .before .branches2 .given) (c .before .before .before .entries2 .given)
     (c .before .entered2 .given) (c .before .before .before .before .before .before .before .before .collect-runs .ensures)
 
 pub collect-spec : {M : Type 1} → statement M

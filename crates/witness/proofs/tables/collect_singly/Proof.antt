@@ -53,7 +53,8 @@ collect-one-requires : tie.Need-collect-one-requires Inv-loop μ-loop
 collect-one-requires c κs =
     let l = c .before .before .before .before .before .before .before .before .loop in
     let i = l .inv in
-    let p = c .before .before .before .before .before .before .before .before .before .before .before .before .before .before .before .pre in
+    let p = c .before .before .before .before .before .before .before .before .before .before .before .before .before .before
+    .before .pre in
     let e = i .0 .each (l .i) (omega arith) in
     let u = c .before .before .before .before .before .before .byte .ensures .0 in
     let w = c .before .before .before .before .before .byte2 .ensures .0 in (
@@ -77,7 +78,8 @@ loop-again c =
     let k = d .before in
     let l = k .before .before .before .before .before .before .before .before .loop in
     let i = l .inv in
-    let p = k .before .before .before .before .before .before .before .before .before .before .before .before .before .before .before .pre in
+    let p = k .before .before .before .before .before .before .before .before .before .before .before .before .before .before
+    .before .pre in
     let e = i .0 .each (l .i) (omega arith) in
     let u = k .before .before .before .before .before .before .byte .ensures .0 in
     let w = k .before .before .before .before .before .byte2 .ensures .0 in

@@ -49,7 +49,13 @@ returns c =
     let r = rw b at (c .before .few-bits3 .ensures .0) in
     let s = rw b at (c .few-bits4 .ensures .0) in (
       omega (arith, p, q, r, s),
-      omega (arith, f .few-bits .ensures .1, c .before .before .few-bits2 .ensures .1, c .before .few-bits3 .ensures .1, c .few-bits4 .ensures .1),
+      omega (
+        arith,
+        f .few-bits .ensures .1,
+        c .before .before .few-bits2 .ensures .1,
+        c .before .few-bits3 .ensures .1,
+        c .few-bits4 .ensures .1,
+      ),
     )
 
 pub sizes-spec : {M : Type 1} → statement M

@@ -16,13 +16,17 @@ byte-requires : tie.Need-byte-requires
 byte-requires c κs = search needs
 
 returns-2 : tie.Need-returns-2
-returns-2 c = let k = c .before .before .before .before .before .before in (took-none (k .pre .0 .ordered), levels-none (k .args .labels .now))
+returns-2 c =
+    let k = c .before .before .before .before .before .before in
+    (took-none (k .pre .0 .ordered), levels-none (k .args .labels .now))
 
 eight-have-requires : tie.Need-eight-have-requires
 eight-have-requires c κs = search needs
 
 returns-3 : tie.Need-returns-3
-returns-3 c = let k = c .before .before .before .before .before .before .before .before in (took-none (k .pre .0 .ordered), levels-none (k .args .labels .now))
+returns-3 c =
+    let k = c .before .before .before .before .before .before .before .before in
+    (took-none (k .pre .0 .ordered), levels-none (k .args .labels .now))
 
 insert-requires : tie.Need-insert-requires
 insert-requires c κs =
@@ -48,9 +52,13 @@ returns-4 c =
     let k = d .before .before .before .before .before .before .before .before .before in
     let z = d .before .before .eight-have .ensures (not-false _ (d .before .if3 .left)) in
     let n = d .before .before .before .if2 .left in
-    let T = took-then (took-more (k .args .at + 8) (took-none (k .pre .0 .ordered)) (omega arith) (omega arith) z (c .before .with-eight .ensures))
-    (c .take-equal-eights .ensures) in
-    (took-as (λ i e. omega (arith, e, n)) T, levels-run (k .args .labels .now) (omega (arith, c .take-equal-eights .ensures .from)) (T .each) (c .before .before .before .before .insert .ensures))
+    let T = took-then (took-more (k .args .at + 8) (took-none (k .pre .0 .ordered))
+    (omega arith) (omega arith) z (c .before .with-eight .ensures))
+    (c .take-equal-eights .ensures) in (
+      took-as (λ i e. omega (arith, e, n)) T,
+      levels-run (k .args .labels .now) (omega (arith, c .take-equal-eights .ensures .from))
+          (T .each) (c .before .before .before .before .insert .ensures),
+    )
 
 pub take-level-spec : {M : Type 1} → statement M
 take-level-spec =
