@@ -18,6 +18,12 @@ ghost use Rattle.bits.specs.First.{First};
 ghost use Rattle.bits.specs.Counts.{bitsBelow};
 ghost use Rattle.bits.specs.Packed.{twoAt, fourAt, Packed};
 
+// The numbers from one up to another.
+pub struct Span {
+    pub from: usize,
+    pub to: usize,
+}
+
 // A byte as a number, with its bound.
 pub fn byte(s: &[u8], i: usize) -> usize
     requires { ⌜ i < length (now s) ⌝ }

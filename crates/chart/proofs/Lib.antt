@@ -4,8 +4,6 @@ pub mod Checks
 pub mod Refusals
 pub mod Order
 pub mod Parts
-pub mod Searches
-pub mod Settling
 pub mod Rows
 pub mod Targets
 pub mod Lowest

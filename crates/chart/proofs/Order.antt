@@ -12,7 +12,7 @@ use borrow.Author.Count.{below-more}
 use Rattle.bits.specs.Bits.{Bytes}
 use Rattle.bits.proofs.Determined.{split-one}
 use Rattle.bits.proofs.Gains.{filled}
-use Rattle.chart.specs.declared.sets.Span.{Span}
+use Rattle.bits.specs.declared.Span.{Span}
 use Rattle.chart.specs.Bodies.{verticesOf, countOf, fromOf, keyAt, WellFormed}
 use Rattle.bits.specs.First.{Split}
 use Rattle.chart.specs.Leaving.{FromBelow, RangeOf, Begins}

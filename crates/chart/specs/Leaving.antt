@@ -8,7 +8,7 @@ use lib.Dec.{eqb}
 use Rattle.report.specs.declared.Stage.{Stage}
 use Rattle.report.specs.declared.Stage.the-variants.{Passed, Refused}
 use Rattle.bits.specs.First.{Split}
-use Rattle.chart.specs.declared.sets.Span.{Span}
+use Rattle.bits.specs.declared.Span.{Span}
 use Rattle.chart.specs.Bodies.{countOf, fromOf}
 use Rattle.chart.specs.Checks.{checkOf}
 

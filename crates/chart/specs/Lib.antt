@@ -1,11 +1,10 @@
--- The definitions. The meaning: Bodies, Steps, Standing, Sets (what a search reaches), Images, Numbered. The tests
--- that run: Checks and Leaving. Codes only serves the proof of `check`.
+-- The definitions. The meaning: Bodies, Steps, Standing, Images, Numbered. The tests that run: Checks and Leaving. Codes
+-- only serves the proof of `check`.
 pub mod Bodies
 pub mod Checks
 pub mod Leaving
 pub mod Codes
 pub mod Steps
 pub mod Standing
-pub mod Sets
 pub mod Images
 pub mod Numbered

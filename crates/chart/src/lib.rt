@@ -1,6 +1,5 @@
 // Chart bodies (document 01, kind 2): a header of four bytes (V, start, two of T) and T transitions of four bytes.
 pub mod images;
-pub mod sets;
 
 ghost use mathlib.Core.Path.{_≡_};
 ghost use mathlib.Core.Bool.{true};
@@ -14,12 +13,12 @@ ghost use Rattle.chart.specs.Steps.{Kept};
 ghost use Rattle.bits.specs.First.{Split};
 ghost use Rattle.bits.specs.Sets.{Members};
 use bits::Set;
+use bits::Span;
 use bits::byte;
 use bits::read_u16;
 use bits::read_u32;
 use report::Place;
 use report::Stage;
-use sets::Span;
 
 // T, the number of transitions that the header declares.
 pub fn count(body: &[u8]) -> usize

@@ -18,7 +18,7 @@ use Rattle.chart.specs.Bodies.{verticesOf}
 use Rattle.chart.specs.Steps.{Kept, StandingOf}
 use Rattle.chart.specs.Standing.{TakenOut}
 use Rattle.chart.proofs.Relations.{kept-standing}
-use Rattle.chart.proofs.Searches.{some-member}
+use Rattle.reach.proofs.Searches.{some-member}
 use Rattle.chart.proofs.Standing.{only?, one-taken}
 use Rattle.elimination.specs.Removals.{removalOf, leftOf}
 use Rattle.elimination.specs.RemovalAnswers.{Fits, OpeningAnswer}

@@ -16,7 +16,7 @@ use Rattle.bits.specs.Bits.{HighestByte}
 use Rattle.bits.specs.declared.sets.Set.{Set}
 use Rattle.bits.specs.Sets.{emptySet, Members}
 use Rattle.bits.proofs.Members.{none}
-use Rattle.chart.specs.declared.sets.Span.{Span}
+use Rattle.bits.specs.declared.Span.{Span}
 use Rattle.chart.specs.Bodies.{countOf, fromOf}
 use Rattle.chart.specs.Checks.{checkOf}
 use Rattle.chart.specs.Leaving.{RangeOf}

@@ -19,7 +19,7 @@ use Rattle.bits.specs.Sets.{Has, Empty, emptySet, Members, Union, Intersection,
 use Rattle.bits.specs.Tables.{rowOf, HasRow, putRow}
 use Rattle.bits.proofs.Members.{none, has?, size-lt}
 use Rattle.bits.proofs.Gains.{put-long, put-here, put-other}
-use Rattle.chart.proofs.Searches.{some-member}
+use Rattle.reach.proofs.Searches.{some-member}
 use Rattle.elimination.specs.declared.walk.Stops.{Stops}
 use Rattle.elimination.specs.Walks.{Meets, RowsOf, RowRead, Onward, Settled, FoundIn, StopsAt, same, apart, fresh}
 

@@ -3,10 +3,10 @@ mod loop_list;
 mod walk;
 
 use bits::Set;
+use bits::Span;
 use bits::byte;
 use bits::highest_byte;
 use chart::range_of;
-use chart::sets::Span;
 use loop_list::list_fits;
 use loop_list::start_in;
 use report::Place;

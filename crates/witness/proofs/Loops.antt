@@ -26,9 +26,9 @@ use Rattle.bits.specs.Tables.{rowOf, HasRow, TableOf}
 use Rattle.bits.proofs.Members.{none, has?}
 use Rattle.bits.proofs.Visits.{Visit}
 use Rattle.chart.specs.Bodies.{verticesOf, WellFormed}
-use Rattle.chart.specs.Sets.{Leads, Closed, InOrFrom}
+use Rattle.reach.specs.Searches.{Leads, Closed, InOrFrom}
 use Rattle.chart.specs.Steps.{StepsOf}
-use Rattle.chart.proofs.Searches.{some-member, all-in}
+use Rattle.reach.proofs.Searches.{some-member, all-in}
 use Rattle.chart.proofs.Relations.{steps-formed}
 use Rattle.witness.specs.Given.{Entry, Tables}
 use Rattle.witness.specs.Loops.{LoopSaid, Back, Returning, InBoth, Barred, InLower, Tells, LoopGiven}

@@ -11,7 +11,7 @@ use Rattle.bits.specs.Tables.{rowOf}
 use Rattle.bits.proofs.Members.{none, has?}
 use Rattle.theory.specs.Paths.{Edges, Star, here, step, Avoid}
 use Rattle.theory.proofs.Paths.{star-snoc}
-use Rattle.chart.specs.Sets.{Leads, FromSet, Closed, ClosedBut, InOrFrom, Known}
+use Rattle.reach.specs.Searches.{Leads, FromSet, Closed, ClosedBut, InOrFrom, Known}
 use Rattle.witness.specs.Loops.{HasReached}
 
 -- nothing is known, and nothing is inside

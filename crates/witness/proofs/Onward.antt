@@ -14,7 +14,7 @@ use Rattle.bits.specs.declared.sets.Set.{Set}
 use Rattle.bits.specs.Sets.{Has, emptySet, Empty, Members, Union}
 use Rattle.bits.specs.Tables.{rowOf}
 use Rattle.bits.proofs.Members.{none}
-use Rattle.chart.specs.Sets.{Leads, Closed}
+use Rattle.reach.specs.Searches.{Leads, Closed}
 use Rattle.witness.specs.Loops.{HasReached, DeadEnd, LeadsOn}
 use Rattle.witness.proofs.Nested.{closed-reached}
 

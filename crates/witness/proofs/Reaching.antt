@@ -15,7 +15,7 @@ use Rattle.theory.specs.Charts.{Any, Branch}
 use Rattle.theory.specs.Checks.{Unreached, OnBranchCycle, NoBranchCycle}
 use Rattle.theory.proofs.Paths.{star-map, plus-map, plus-below}
 use Rattle.chart.specs.Bodies.{verticesOf, startOf, WellFormed}
-use Rattle.chart.specs.Sets.{Leads, FromSet, OnCycle}
+use Rattle.reach.specs.Searches.{Leads, FromSet, OnCycle}
 use Rattle.chart.specs.Steps.{StepsOf}
 use Rattle.chart.proofs.Relations.{steps-formed}
 use Rattle.witness.specs.Given.{FirstUnreached}

@@ -15,7 +15,7 @@ use Rattle.report.specs.declared.Stage.the-variants.{Passed}
 use Rattle.chart.specs.Bodies.{verticesOf, startOf, countOf, toOf, WellFormed}
 use Rattle.chart.specs.Checks.{checkOf}
 use Rattle.chart.specs.Leaving.{Begins}
-use Rattle.chart.specs.Sets.{Known}
+use Rattle.reach.specs.Searches.{Known}
 use Rattle.chart.specs.Steps.{StepsOf}
 use Rattle.witness.specs.declared.tables.Taken.{Taken}
 use Rattle.witness.specs.declared.tables.Outgoing.{Outgoing}

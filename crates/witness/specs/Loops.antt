@@ -16,7 +16,7 @@ use Rattle.theory.specs.Checks.{LoopPasses}
 use Rattle.report.specs.declared.Stage.{Stage}
 use Rattle.report.specs.declared.Stage.the-variants.{Passed, Refused}
 use Rattle.chart.specs.Bodies.{WellFormed}
-use Rattle.chart.specs.Sets.{Leads, FromSet, Closed}
+use Rattle.reach.specs.Searches.{Leads, FromSet, Closed}
 use Rattle.chart.specs.Steps.{StepsOf}
 use Rattle.witness.specs.Answers.{FailsAt}
 use Rattle.witness.specs.Given.{EntersHigh, IsLevel}

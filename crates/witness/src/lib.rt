@@ -6,8 +6,8 @@ mod tables;
 
 use bits::byte;
 use bits::highest_byte;
-use chart::sets::cycle;
 use loop_checks::loops_check;
+use reach::cycle;
 use reached::unreached;
 use report::Labelled;
 use report::Place;

@@ -1,7 +1,7 @@
 // The check 31.
 use bits::Set;
 use bits::byte;
-use chart::sets::closure;
+use reach::closure;
 ghost use mathlib.Core.Path.{_≡_};
 ghost use mathlib.Core.List.{List};
 ghost use Prim.Native.Nat.{ℕ};

@@ -1,6 +1,6 @@
 use mathlib.Core.Bool.{false≢true}
 use borrow.Author.Tests.{not-false}
-use Rattle.chart.proofs.Searches.{all-in}
+use Rattle.reach.proofs.Searches.{all-in}
 use Rattle.witness.proofs.Entries.{levels-in}
 use borrow.Author.Needs.{needs}
 use Rattle.witness.proofs.loop_checks.all_return.Statement.{statement}

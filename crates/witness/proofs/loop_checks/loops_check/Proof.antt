@@ -7,7 +7,7 @@ use Rattle.bits.specs.Tables.{rowOf}
 use Rattle.bits.proofs.Visits.{visit-less, Left, left-all, left-next, left-after, left-some, left-none}
 use Rattle.theory.specs.Paths.{Avoid}
 use Rattle.chart.specs.Bodies.{verticesOf}
-use Rattle.chart.specs.Sets.{Leads, Closed}
+use Rattle.reach.specs.Searches.{Leads, Closed}
 use Rattle.chart.specs.Steps.{StepsOf}
 use Rattle.chart.proofs.Checks.{well-formed}
 use Rattle.witness.specs.Given.{Given, Tables}

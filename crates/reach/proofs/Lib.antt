@@ -1,0 +1,3 @@
+-- The laws.
+pub mod Searches
+pub mod Settling
