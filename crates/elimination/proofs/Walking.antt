@@ -1,5 +1,5 @@
 -- The walk through the chart of a loop: what holds of it at each step, and what it has found at its end.
-use Prim.Native.Nat.{ℕ, zero, suc, _+_, _-_, _≤_, _<_}
+use Prim.Native.Nat.{ℕ, zero, suc, _+_, _*_, _-_, _≤_, _<_}
 use mathlib.Core.Path.{_≡_, refl, sym, _∙_, subst}
 use mathlib.Core.Logic.{_≢_, _⊎_, inl, inr, ⊎-elim, _↔_, Iff·trans, by-cases}
 use mathlib.Core.Bool.{Bool, true, false, true≢false}
@@ -22,6 +22,10 @@ use Rattle.bits.proofs.Gains.{put-long, put-here, put-other}
 use Rattle.reach.proofs.Searches.{some-member}
 use Rattle.elimination.specs.declared.walk.Stops.{Stops}
 use Rattle.elimination.specs.Walks.{Meets, RowsOf, RowRead, Onward, Settled, FoundIn, StopsAt, same, apart, fresh}
+
+-- where one more is past and the path is one shorter, less is left to do
+pub shorter-less : {s t d : ℕ} → s < t → t ≤ 128 → 0 < d → d ≤ 129 → 130 * (128 - t) + (129 - (d - 1)) < 130 * (128 - s) + (129 - d)
+shorter-less a b c e = omega (arith, a, b, c, e)
 
 -- a set of one, what is left of a set and one more, and sets that meet
 pub only-one : {w : ℕ} {s r : Set} → s ≡ emptySet → ((y : ℕ) → Has r y ↔ (Has s y ⊎ (y ≡ w))) → (y : ℕ) → Has r y ↔ (y ≡ w)

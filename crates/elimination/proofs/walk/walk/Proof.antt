@@ -14,6 +14,7 @@ use Rattle.chart.specs.Steps.{Kept}
 use Rattle.elimination.specs.Walks.{Settled}
 use Rattle.elimination.proofs.Entries.{kept-low}
 use Rattle.elimination.proofs.Walking.{Walking, walking-none, walking-on, walking-back, walking-more, walking-ended, walking-long}
+use Rattle.elimination.proofs.Walking.{shorter-less}
 use Rattle.elimination.proofs.walk.walk.Statement.{statement}
 use Rattle.elimination.proofs.walk.walk.Tie as tie
 
@@ -125,19 +126,14 @@ sub-depth c = search needs
 loop-less-2 : tie.Need-loop-less-2 Inv-loop μ-loop
 loop-less-2 c =
     let i = c .before .before .before .before .before .before .before .before .before .before .before .before .before .before .loop .inv in
-    omega (
-      arith,
-      i .4 .deep,
-      c .before .before .before .before .before .before .before .if2 .left,
-      size-few (c .with2 .result),
-      walking-more (kept-low (i .0)) (i .4)
-          (c .before .before .before .before .before .before .before .before .before .before .onward .ensures)
-          (c .before .before .before .before .before .before .before .before .before .lowest .ensures)
-          (c .before .before .before .before .before .before .before .before .if1 .left)
-          (omega (arith, c .before .before .before .before .before .before .before .if2 .left))
-          (c .before .before .before .before .row2 .ensures) (c .before .before .before .intersection .ensures)
-          (decides-not (c .before .before .is-empty .ensures)) (c .before .with-if .ensures) (c .with2 .ensures),
-    )
+    shorter-less (walking-more (kept-low (i .0)) (i .4)
+    (c .before .before .before .before .before .before .before .before .before .before .onward .ensures)
+    (c .before .before .before .before .before .before .before .before .before .lowest .ensures)
+    (c .before .before .before .before .before .before .before .before .if1 .left)
+    (omega (arith, c .before .before .before .before .before .before .before .if2 .left))
+    (c .before .before .before .before .row2 .ensures) (c .before .before .before .intersection .ensures)
+    (decides-not (c .before .before .is-empty .ensures)) (c .before .with-if .ensures) (c .with2 .ensures))
+    (size-few (c .with2 .result)) (omega (arith, c .before .before .before .before .before .before .before .if2 .left)) (i .4 .deep)
 
 loop-again-2 : tie.Need-loop-again-2 Inv-loop μ-loop
 loop-again-2 c =
