@@ -143,9 +143,9 @@ fn moved_by_value(chart: &[u8], set: [u8; 16], line: &[u8]) -> Moved {
     if word_of(line) == RESTART {
         let fresh = follower::restart(chart);
         let state = fresh.follower;
-        return follower::restart_through(chart, state);
+        return follower::restart_through(state, chart);
     }
-    follower::event_through(chart, Follower { set }, action(line))
+    follower::event_through(Follower { set }, chart, action(line))
 }
 
 // The set is that of the lent state, which becomes what is handed back.

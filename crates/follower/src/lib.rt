@@ -87,7 +87,7 @@ fn event_on(chart: &[u8], follower: Follower, action: u8) -> Moved
 }
 
 // One event. A refusal hands the state back as it came.
-pub fn event(chart: &[u8], follower: Follower, action: u8) -> Moved
+pub fn event(follower: Follower, chart: &[u8], action: u8) -> Moved
     ensures { λ r. ⌜ r ≡ eventOf (now (chart .entry)) follower action ⌝ }
 {
     match chart::check(chart) {
@@ -115,7 +115,7 @@ fn restart_on(chart: &[u8]) -> Moved
 }
 
 // A restart; a refusal hands back the state that is given.
-fn restart_from(chart: &[u8], follower: Follower) -> Moved
+fn restart_from(follower: Follower, chart: &[u8]) -> Moved
     ensures { λ r. ⌜ r ≡ restartFrom (now (chart .entry)) follower ⌝ }
 {
     match chart::check(chart) {
@@ -131,7 +131,7 @@ fn restart_from(chart: &[u8], follower: Follower) -> Moved
 pub fn restart(chart: &[u8]) -> Moved
     ensures { λ r. ⌜ r ≡ restartOf (now (chart .entry)) ⌝ }
 {
-    restart_from(chart, Follower { set: [0u8; 16] })
+    restart_from(Follower { set: [0u8; 16] }, chart)
 }
 
 // The state that lent bytes hold.
@@ -200,42 +200,42 @@ pub fn restart_lent(chart: &[u8], state: &mut [u8]) -> Followed
 }
 
 // One event, of a follower that is lent and updated where it stands.
-pub fn event_in_place(chart: &[u8], follower: &mut Follower, action: u8) -> Followed
+pub fn event_in_place(follower: &mut Follower, chart: &[u8], action: u8) -> Followed
     ensures { λ r. ⌜ (r ≡ eventOf (now (chart .entry)) (now (follower .entry)) action .answer)
         × (now (follower .exit) ≡ eventOf (now (chart .entry)) (now (follower .entry)) action .follower) ⌝ }
 {
-    let moved = event(chart, *follower, action);
+    let moved = event(*follower, chart, action);
     *follower = moved.follower;
     moved.answer
 }
 
 // A restart, of a follower that is lent and updated where it stands.
-pub fn restart_in_place(chart: &[u8], follower: &mut Follower) -> Followed
+pub fn restart_in_place(follower: &mut Follower, chart: &[u8]) -> Followed
     ensures { λ r. ⌜ (r ≡ restartFrom (now (chart .entry)) (now (follower .entry)) .answer)
         × (now (follower .exit) ≡ restartFrom (now (chart .entry)) (now (follower .entry)) .follower) ⌝ }
 {
-    let moved = restart_from(chart, *follower);
+    let moved = restart_from(*follower, chart);
     *follower = moved.follower;
     moved.answer
 }
 
 // The functions above, called on a local: for a caller that lends no follower.
-pub fn event_through(chart: &[u8], follower: Follower, action: u8) -> Moved
+pub fn event_through(follower: Follower, chart: &[u8], action: u8) -> Moved
     ensures { λ r. ⌜ r ≡ eventOf (now (chart .entry)) follower action ⌝ }
 {
     let mut lent = follower;
-    let answer = event_in_place(chart, &mut lent, action);
+    let answer = event_in_place(&mut lent, chart, action);
     Moved {
         answer,
         follower: lent,
     }
 }
 
-pub fn restart_through(chart: &[u8], follower: Follower) -> Moved
+pub fn restart_through(follower: Follower, chart: &[u8]) -> Moved
     ensures { λ r. ⌜ r ≡ restartFrom (now (chart .entry)) follower ⌝ }
 {
     let mut lent = follower;
-    let answer = restart_in_place(chart, &mut lent);
+    let answer = restart_in_place(&mut lent, chart);
     Moved {
         answer,
         follower: lent,
