@@ -1,15 +1,16 @@
 -- Demand 3, proved.
 use mathlib.Core.Path.{_≡_, refl, sym, ap, _∙_}
-use mathlib.Core.Logic.{_≢_, inl, ⊎-elim, by-cases}
-use mathlib.Core.List.{List, [], _∷_, map, map-map}
+use mathlib.Core.Logic.{_≢_, inl, ⊎-elim, _↔_, Iff·symm, Iff·trans, Dec·of-iff, by-cases}
+use mathlib.Core.List.{List, [], _∷_, map, map-map, map-congr-left}
 use Prim.Native.Nat.{ℕ, zero, suc, _-_, _<_}
 use native.Mathlib.Decide.{ℕ-discrete}
 use native.Mathlib.Omega.{arith}
 use lib.ListN.{length, getD, length-replicate, getD-replicate, length-map}
 use borrow.Author.Tests.{eq-eqb, ne-eqb}
-use Rattle.theory.specs.Charts.{Loop}
-use Rattle.theory.specs.Standing.{Loops, DecidedLoops}
+use Rattle.theory.specs.Charts.{Steps, Loop}
+use Rattle.theory.specs.Standing.{Loops, SameLoops, DecidedLoops}
 use Rattle.theory.specs.Orders.{Pair, Order}
+use Rattle.theory.specs.Removals.{Answer, done, refused-51, refused-52, left-loops}
 use Rattle.theory.specs.Systems.{Bisimulation}
 use Rattle.theory.specs.Nodes.{Means}
 use Rattle.theory.specs.Rules.{rules}
@@ -24,6 +25,9 @@ use Rattle.theory.proofs.Rules.{chart-rules}
 use Rattle.theory.proofs.Followers.{fresh-agree, one-answers}
 use Rattle.theory.proofs.Runs.{chart-answers, rules-answers}
 use Rattle.report.specs.declared.Followed.{Followed}
+use Rattle.report.specs.declared.Removed.{Removed}
+use Rattle.report.specs.declared.Removed.the-variants.{Done}
+use Rattle.report.specs.Numbers.{removedNumbers, followedNumbers}
 use Rattle.report.specs.declared.Stage.the-variants as stage
 use Rattle.report.specs.declared.Verdict.the-variants.{Accepted}
 use Rattle.bits.specs.Bits.{Bytes}
@@ -33,7 +37,7 @@ use Rattle.chart.specs.Steps.{StepsOf}
 use Rattle.chart.specs.Standing.{StandsFor}
 use Rattle.chart.proofs.Checks.{well-formed}
 use Rattle.chart.proofs.Relations.{steps-formed}
-use Rattle.chart.proofs.Standing.{stands-agree, all-stand, one-standing}
+use Rattle.chart.proofs.Standing.{stands-agree, stands-same, all-stand, one-standing}
 use Rattle.witness.proofs.Labellings.{labelled-iff-witness}
 use Rattle.expression.specs.Table as nodes
 use Rattle.expression.specs.Body.{chartOf}
@@ -50,7 +54,7 @@ use Rattle.verdict.specs.Verdicts.{nodesIn, chartIn, labelsIn, relationIn, verd
 use Rattle.verdict.proofs.Verdicts.{accepted-iff}
 use Rattle.promises.specs.Demand1.{stepsIn, expressionIn}
 use Rattle.promises.specs.Demand2.{chartSystem}
-use Rattle.promises.specs.Demand3.{allStanding, EachRemoval, ended, call, AgainstPlainSet, OrderExists, branchByte, RunsThrough, FollowerGives, rootIn, OneList, Demand3}
+use Rattle.promises.specs.Demand3.{allStanding, Remaining, EachRemoval, ended, call, plainNumbers, AgainstPlainSet, OrderExists, branchByte, RunsThrough, FollowerGives, ruleNumbers, rootIn, OneList, Demand3}
 use Rattle.promises.proofs.Accepted.{part-bytes}
 
 -- BRANCH BYTES, which stand for no loop
@@ -76,6 +80,41 @@ branches-stand b labels {Y} each none = record {
     entry : (i : ℕ) → i < countOf b → getD labels i 0 ≢ 0 → getD (map branchByte labels) i 0 ≡ 0
     entry i h n = branch-at labels i (omega (arith, each)) ∙ rw (ne-eqb (getD labels i 0) 0 n)
 
+-- THE ANSWERS of the calls have the numbers that are written out for the theory's
+plain-numbers : (a : Answer) → removedNumbers (removedAs a) ≡ plainNumbers a
+plain-numbers done = refl
+plain-numbers (refused-51 v l) = refl
+plain-numbers (refused-52 v l r) = refl
+
+rule-numbers : (x : events.Answer) → followedNumbers (followedAs x) ≡ ruleNumbers x
+rule-numbers (events.answer events.taken end offered) = refl
+rule-numbers (events.answer events.not-possible end offered) = refl
+rule-numbers events.refused-53 = refl
+
+all-numbers : {X Y K : Type 0} (f : Y → K) (g : X → Y) (h : X → K) → ((x : X) → f (g x) ≡ h x) → {ys : List Y} (xs : List X)
+    → ys ≡ map g xs → map f ys ≡ map h xs
+all-numbers f g h same xs e = ap (map f) e ∙ map-map f g xs ∙ map-congr-left {l = xs} (λ x m. same x)
+
+-- A REMOVAL is done where the plain set's answer is, and leaves the same loops
+module _ {x : Removed} where
+  done-same : (a : Answer) → x ≡ removedAs a → (x ≡ Done) ↔ (a ≡ done)
+  done-same done e = ((λ z. refl), (λ z. e))
+  done-same (refused-51 p q) e =
+      ((λ z. let o : _≡_ {A = ℕ} 0 1 = cc in absurd (omega arith)), (λ z. let o : _≡_ {A = ℕ} 0 1 = cc in absurd (omega arith)))
+  done-same (refused-52 p q r) e =
+      ((λ z. let o : _≡_ {A = ℕ} 0 1 = cc in absurd (omega arith)), (λ z. let o : _≡_ {A = ℕ} 0 1 = cc in absurd (omega arith)))
+
+  remaining-same : (a : Answer) → x ≡ removedAs a → (v l : ℕ) (X : Loops) → SameLoops (Remaining x v l X) (left-loops a v l X)
+  remaining-same done e v l X u m = ((λ (y, d). (y, d e)), (λ (y, d). (y, λ z. d)))
+  remaining-same (refused-51 p q) e v l X u m = ((λ (y, d). y), (λ y. (y, λ z. let o : _≡_ {A = ℕ} 0 1 = cc in absurd (omega arith))))
+  remaining-same (refused-52 p q r) e v l X u m = ((λ (y, d). y), (λ y. (y, λ z. let o : _≡_ {A = ℕ} 0 1 = cc in absurd (omega arith))))
+
+decided-same : {S : Steps} {X Y : Loops} → SameLoops Y X → DecidedLoops S X → DecidedLoops S Y
+decided-same same k = record {
+  loops = λ v l y. k .loops v l (same v l .0 y);
+  member = λ v l. Dec·of-iff (Iff·symm (same v l)) (k .member v l);
+}
+
 -- BESIDE A CHART AND LABELS THAT PASS
 module _ {b labels : List ℕ} (c : Passing b labels) where
   all-loops : DecidedLoops (StepsOf b labels) (Loop (StepsOf b labels))
@@ -89,12 +128,16 @@ module _ {b labels : List ℕ} (c : Passing b labels) where
   each-from k h [] = ended h
   each-from k h ((v, l) ∷ calls) =
       let (a, p) = plain-call (formed c) (listed c) k v l in
-      call h (call-answers c (k .loops) h v l p) (plain-done p)
-      (each-from (left-decided v l a k) (call-stands c (k .loops) h v l a p) calls)
+      let e = call-answers c (k .loops) h v l p in
+      let same = remaining-same a e v l _ in
+      call h (Iff·trans (done-same a e) (plain-done p))
+      (each-from (decided-same same (left-decided v l a k)) (stands-same same (call-stands c (k .loops) h v l a p)) calls)
 
   against : (calls : List Pair) → AgainstPlainSet b labels calls
   against calls = record {
-    same = λ ys Y p. let (e, s) = calls-agree c (λ v l o. o) at-first p in record { answers = e; stands = s };
+    same = λ ys Y p.
+        let (e, s) = calls-agree c (λ v l o. o) at-first p in
+        record { answers = all-numbers removedNumbers removedAs plainNumbers plain-numbers ys e; stands = s };
     answered = plain-answers (formed c) (listed c) all-loops calls;
   }
 
@@ -111,15 +154,15 @@ module _ {b labels : List ℕ} (c : Passing b labels) where
 -- THE FOLLOWER OVER A BODY THAT PASSES, where the rule has but one list of answers over its chart
 gives : {b : List ℕ} {cs : List events.Call} {xs : List events.Answer} → chart.WellFormed b
     → ((zs : List events.Answer) → Answers events.eventRule (chartSystem b) tt cs zs → zs ≡ xs)
-    → FollowerGives b cs (map followedAs xs)
+    → FollowerGives b cs (map ruleNumbers xs)
 gives {b} {cs} {xs} W one = record {
   by-value = told (by-value-follows W (restartOf b .follower) (fresh-by-value W) cs);
   in-place = λ f. told (in-place-follows W (restartFrom b f .follower) (fresh-in-place W f) cs);
   lent = λ s h. told (lent-follows W (restartLent b s .follower .set) (fresh-lent W s h) cs);
 }
   where
-    told : {ys : List Followed} → ByRule b cs ys → ys ≡ map followedAs xs
-    told R = R .written ∙ ap (map followedAs) (one (R .answers) (R .rule))
+    told : {ys : List Followed} → ByRule b cs ys → map followedNumbers ys ≡ map ruleNumbers xs
+    told R = all-numbers followedNumbers followedAs ruleNumbers rule-numbers (R .answers) (R .written) ∙ ap (map ruleNumbers) (one (R .answers) (R .rule))
 
 -- OF ANY ACCEPTED FILE
 module _ (f : List ℕ) (bytes : Bytes f) {v t l : ℕ} (accepted : verdictOf f ≡ Accepted v t l) where

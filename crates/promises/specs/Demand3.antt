@@ -1,6 +1,8 @@
 -- Demand 3: `Demand3` below, of any accepted file. First the removals: "Take the chart and labels of any accepted file,
 -- all steps standing." Here b is the chart and `labels` the labelling; a list of calls gives each a pair (v, level),
--- whatever it is, and the standing bytes that the call before left. Then the followers.
+-- whatever it is, and the standing bytes that the call before left. Then the followers. Lists of answers are compared by
+-- the four numbers: of the calls' answers by document 01's (`removedNumbers`, `followedNumbers`), of the theory's as they
+-- are written out here.
 use mathlib.Core.Path.{_≡_}
 use mathlib.Core.Logic.{_↔_}
 use mathlib.Core.Bool.{cond}
@@ -12,22 +14,24 @@ use Rattle.theory.specs.Paths.{Endless}
 use Rattle.theory.specs.Charts.{Any, Loop}
 use Rattle.theory.specs.Standing.{Loops, Inside}
 use Rattle.theory.specs.Orders.{Pair, Order}
-use Rattle.theory.specs.Removals.{Answer, done, left-loops, PlainAll}
+use Rattle.theory.specs.Removals.{Answer, done, refused-51, refused-52, Different, PlainAll}
 use Rattle.theory.specs.Expressions.{Expr}
 use Rattle.theory.specs.Nodes.{expr}
 use Rattle.theory.specs.Rules.{rules}
 use Rattle.theory.specs.Followers.{Answers}
 use Rattle.theory.specs.Events as events
 use Rattle.theory.specs.Runs.{run, runFresh, ruleMachine}
-use Rattle.report.specs.declared.Followed.{Followed}
+use Rattle.report.specs.declared.Numbers.{Numbers}
+use Rattle.report.specs.declared.Removed.{Removed}
 use Rattle.report.specs.declared.Removed.the-variants.{Done}
+use Rattle.report.specs.Numbers.{four, flag, removedNumbers, followedNumbers}
 use Rattle.chart.specs.Bodies.{countOf}
 use Rattle.chart.specs.Steps.{StepsOf, StandingOf}
 use Rattle.chart.specs.Standing.{StandsFor}
 use Rattle.expression.specs.Table as nodes
-use Rattle.elimination.specs.Removals.{removedAs, removalOf, leftOf, answersOf, leftAfter}
+use Rattle.elimination.specs.Removals.{removalOf, leftOf, answersOf, leftAfter}
 use Rattle.follower.specs.declared.Follower.{Follower}
-use Rattle.follower.specs.States.{followedAs, restartOf, restartFrom, restartLent}
+use Rattle.follower.specs.States.{restartOf, restartFrom, restartLent}
 use Rattle.follower.specs.Lists.{byValue, inPlace, lent}
 use Rattle.verdict.specs.Verdicts.{nodesIn, chartIn, labelsIn}
 use Rattle.promises.specs.Demand1.{stepsIn, expressionIn}
@@ -36,24 +40,33 @@ use Rattle.promises.specs.Demand1.{stepsIn, expressionIn}
 abbrev pub allStanding : List ℕ → List ℕ
 allStanding b = replicate (countOf b) 1
 
+-- the loops of X that are not taken out when (v, l) is answered so: where it is done, all but (v, l)
+abbrev pub Remaining : Removed → ℕ → ℕ → Loops → Loops
+Remaining answer v l X u m = X u m × (answer ≡ Done → Different v l u m)
+
 -- "For every list of removals, refused ones included, each on the steps that the last one left: a removal is done
 -- exactly when its loop still stands and no loop stands that starts inside its body, its own start aside. After the
 -- list exactly the branch steps and the entries of loops not taken out stand." X has the loops not taken out: before
 -- each call and after the last a byte is 1 exactly for a branch, or for an entry whose loop is in X
 pub data EachRemoval (b labels : List ℕ) : (standing : List ℕ) → Loops → List Pair → Type 1 where
   ended : {standing : List ℕ} {X : Loops} → StandsFor b labels standing X → EachRemoval b labels standing X []
-  call : {standing : List ℕ} {X : Loops} {v l : ℕ} {a : Answer} {calls : List Pair}
+  call : {standing : List ℕ} {X : Loops} {v l : ℕ} {calls : List Pair}
       → StandsFor b labels standing X
-      → removalOf b labels v l standing ≡ removedAs a
-      → (a ≡ done) ↔ (X v l × ¬ Inside (StepsOf b labels) X v l)
-      → EachRemoval b labels (leftOf b labels v l standing) (left-loops a v l X) calls
+      → (removalOf b labels v l standing ≡ Done) ↔ (X v l × ¬ Inside (StepsOf b labels) X v l)
+      → EachRemoval b labels (leftOf b labels v l standing) (Remaining (removalOf b labels v l standing) v l X) calls
       → EachRemoval b labels standing X ((v, l) ∷ calls)
+
+-- document 01's numbers for each answer of the plain set
+abbrev pub plainNumbers : Answer → Numbers
+plainNumbers done = four 0 0 0 0
+plainNumbers (refused-51 v l) = four 51 v l 0
+plainNumbers (refused-52 v l r) = four 52 v l r
 
 -- Document 01: "Each answer, places included, is the plain set's." The set has all loops at first, is fed the pairs and
 -- nothing else, and answers ys; after the list a byte is 1 exactly for a branch, or for an entry whose loop is in the
 -- set Y that is left
 pub record AsPlainSet (b labels : List ℕ) (calls : List Pair) (ys : List Answer) (Y : Loops) : Type 0 where
-  pub answers : answersOf b labels calls (allStanding b) ≡ map removedAs ys
+  pub answers : map removedNumbers (answersOf b labels calls (allStanding b)) ≡ map plainNumbers ys
   pub stands : StandsFor b labels (leftAfter b labels calls (allStanding b)) Y
 
 -- whatever the set answers, and it has an answer to every list
@@ -78,14 +91,22 @@ pub record RunsThrough (b labels : List ℕ) (xs : List Pair) : Type 0 where
   pub no-endless : (v : ℕ) → ¬ Endless (Any (StandingOf b labels (leftAfter b labels xs (allStanding b)))) v
 
 -- THE FOLLOWERS. A list of events and restarts begins at a fresh start, which is what a restart hands back or leaves;
--- each call gets the state that the one before handed back or left. The follower over the chart body b answers ys:
-pub record FollowerGives (b : List ℕ) (cs : List events.Call) (ys : List Followed) : Type 0 where
+-- each call gets the state that the one before handed back or left. The follower over the chart body b answers with the
+-- numbers ks:
+pub record FollowerGives (b : List ℕ) (cs : List events.Call) (ks : List Numbers) : Type 0 where
   -- by value
-  pub by-value : run (byValue b) cs (restartOf b .follower) ≡ ys
+  pub by-value : map followedNumbers (run (byValue b) cs (restartOf b .follower)) ≡ ks
   -- in a state that is lent itself, whatever it was before
-  pub in-place : (f : Follower) → run (inPlace b) cs (restartFrom b f .follower) ≡ ys
+  pub in-place : (f : Follower) → map followedNumbers (run (inPlace b) cs (restartFrom b f .follower)) ≡ ks
   -- in sixteen lent bytes, whatever they were before
-  pub lent : (s : List ℕ) → length s ≡ 16 → run (lent b) cs (restartLent b s .follower .set) ≡ ys
+  pub lent : (s : List ℕ) → length s ≡ 16
+      → map followedNumbers (run (lent b) cs (restartLent b s .follower .set)) ≡ ks
+
+-- document 01's numbers for each answer of the published rules' follower
+abbrev pub ruleNumbers : events.Answer → Numbers
+ruleNumbers (events.answer events.taken end offered) = four 0 1 (flag end) offered
+ruleNumbers (events.answer events.not-possible end offered) = four 0 0 (flag end) offered
+ruleNumbers events.refused-53 = four 53 0 0 0
 
 -- the root's expression
 abbrev pub rootIn : List ℕ → Expr
@@ -99,8 +120,8 @@ pub record OneList (panel expression : List ℕ) (e : Expr) (cs : List events.Ca
   pub answers : List events.Answer
   pub rules-give : Answers events.eventRule (rules e) tt cs answers
   pub no-others : (xs : List events.Answer) → Answers events.eventRule (rules e) tt cs xs → xs ≡ answers
-  pub panel-gives : FollowerGives panel cs (map followedAs answers)
-  pub expression-gives : FollowerGives expression cs (map followedAs answers)
+  pub panel-gives : FollowerGives panel cs (map ruleNumbers answers)
+  pub expression-gives : FollowerGives expression cs (map ruleNumbers answers)
   -- the rules' follower as it runs
   pub rules-run : runFresh events.eventRule (ruleMachine e) tt cs ≡ answers
 
