@@ -1,7 +1,7 @@
 -- The tests of a removal say what document 01 says, both ways; and what a call leaves of the standing bytes.
 use Prim.Native.Nat.{ℕ, zero, suc, _+_, _<_}
-use mathlib.Core.Path.{_≡_, refl, sym, _∙_, ap, subst}
-use mathlib.Core.Logic.{_≢_, _↔_, by-cases}
+use mathlib.Core.Path.{_≡_, refl, sym, _∙_, ap}
+use mathlib.Core.Logic.{_≢_, _⊎_, inl, inr, ⊎-elim, _↔_, by-cases}
 use mathlib.Core.Bool.{Bool, cond, _&&_}
 use mathlib.Core.List.{List, [], _∷_}
 use native.Mathlib.Decide.{ℕ-discrete, decLe}
@@ -9,13 +9,15 @@ use native.Mathlib.Omega.{arith}
 use lib.Dec.{eqb}
 use lib.ListN.{length, getD}
 use borrow.Author.Tests.{eq-eqb, ne-eqb}
-use Rattle.theory.specs.Charts.{Formed}
-use Rattle.theory.specs.Removals.{Answer, Removes}
+use Rattle.theory.specs.Charts.{Steps, Formed}
+use Rattle.theory.specs.Removals.{Answer, refused-51, refused-52, Removes}
+use Rattle.theory.specs.MultiSteps.{LoopSubchart}
 use Rattle.theory.specs.Tests.{Decides}
 use Rattle.theory.specs.RemovalTests.{ruleAnswer}
 use Rattle.theory.proofs.Tests.{decided, is-false, decides-same, decides-and, decides-not, decides-eqb, decides-ltb, decides-below}
 use Rattle.theory.proofs.RemovalTests.{rule-answer}
 use Rattle.theory.proofs.Removals.{one-answer}
+use Rattle.theory.proofs.MultiSteps.{chart-goes}
 use Rattle.report.specs.declared.Removed.{Removed}
 use Rattle.report.specs.declared.Removed.the-variants.{Done, Refused, StandingBytes, NoEntry, NotLoop}
 use Rattle.report.specs.declared.Place.{Place}
@@ -29,9 +31,11 @@ use Rattle.chart.specs.Standing.{TakenOut}
 use Rattle.chart.proofs.Checks.{well-formed, passes, check-20, check-21}
 use Rattle.chart.proofs.Refusals.{refused-cases}
 use Rattle.chart.proofs.Relations.{steps-formed, steps-listed, standing-step}
+use Rattle.chart.proofs.Standing.{only?, one-taken}
 use Rattle.elimination.specs.Removals.{removedAs, standingTest, whenDone, onFits, standsTest, ruledOf, removalOf, clearedFrom, leftOf}
 use Rattle.elimination.specs.RemovalAnswers.{StandingFits, Fits, OpeningAnswer, other-header, faulty-at, other-length}
-use Rattle.elimination.specs.RemovalAnswers.{other-standing, RemovalAnswer, opening, ruled}
+use Rattle.elimination.specs.RemovalAnswers.{other-standing, LoopRefused, no-entry, breaks-L1, breaks-L2, breaks-L3}
+use Rattle.elimination.specs.RemovalAnswers.{RemovalAnswer, opening, refused, taken}
 
 -- the test of 50 decides what 50 asks
 pub tests-standing : (b standing : List ℕ) → Decides (standingTest b standing) (StandingFits b standing)
@@ -111,6 +115,27 @@ module _ (b labels standing : List ℕ) where
   opening-refuses (other-length W n) e = let z : _≡_ {A = ℕ} 0 1 = cc in omega arith
   opening-refuses (other-standing W h n) e = let z : _≡_ {A = ℕ} 0 1 = cc in omega arith
 
+-- 51 AND 52: one of them is the rule's answer, or it is done
+module _ {R : Steps} {v l : ℕ} where
+  pub rule-or : {a : Answer} → Removes R v l a → LoopSubchart R (v, l) ⊎ LoopRefused R v l (removedAs a)
+  rule-or (Removes.absent h) = inr (no-entry h)
+  rule-or (Removes.goes o c) = inl (record { loop = o; chart = c })
+  rule-or (Removes.breaks-L1 o h) = inr (breaks-L1 o h)
+  rule-or (Removes.breaks-L2 o e h) = inr (breaks-L2 o e h)
+  rule-or (Removes.breaks-L3 o e r h) = inr (breaks-L3 o e r h)
+
+  pub refused-rule : {x : Removed} → LoopRefused R v l x → (a : Answer) × Removes R v l a × (removedAs a ≡ x)
+  refused-rule (no-entry h) = (refused-51 v l, Removes.absent h, refl)
+  refused-rule (breaks-L1 o h) = (refused-52 v l 1, Removes.breaks-L1 o h, refl)
+  refused-rule (breaks-L2 o e h) = (refused-52 v l 2, Removes.breaks-L2 o e h, refl)
+  refused-rule (breaks-L3 o e r h) = (refused-52 v l 3, Removes.breaks-L3 o e r h, refl)
+
+  pub loop-refuses : {x : Removed} → LoopRefused R v l x → x ≢ Done
+  loop-refuses (no-entry h) e = let z : _≡_ {A = ℕ} 0 1 = cc in omega arith
+  loop-refuses (breaks-L1 o h) e = let z : _≡_ {A = ℕ} 0 1 = cc in omega arith
+  loop-refuses (breaks-L2 o p h) e = let z : _≡_ {A = ℕ} 0 1 = cc in omega arith
+  loop-refuses (breaks-L3 o p r h) e = let z : _≡_ {A = ℕ} 0 1 = cc in omega arith
+
 -- THE ANSWER to (v, l)
 module _ (b labels : List ℕ) (v l : ℕ) (standing : List ℕ) where
   pub removal-refused : {a : Removed} → OpeningAnswer b labels standing a → removalOf b labels v l standing ≡ a
@@ -136,21 +161,6 @@ module _ (b labels : List ℕ) (v l : ℕ) (standing : List ℕ) where
   pub done-fits : removalOf b labels v l standing ≡ Done → Fits b labels standing
   done-fits e =
       opening-stages b labels standing (λ a o. absurd (opening-refuses b labels standing o (sym (removal-refused o) ∙ e))) (λ f. f)
-
-  -- THE ANSWER IS a exactly where document 01 says so
-  module _ (B : Bytes labels) where
-    removal-answer : RemovalAnswer b labels v l standing (removalOf b labels v l standing)
-    unfolding ruledOf
-    removal-answer =
-        opening-stages b labels standing (λ a o. rw (removal-refused o) (opening o))
-        (λ f. rw (removal-fits f) (ruled f (rule-says B (f .formed))))
-
-    answer-removal : {a : Removed} → RemovalAnswer b labels v l standing a → removalOf b labels v l standing ≡ a
-    answer-removal (opening o) = removal-refused o
-    answer-removal (ruled f r) = removal-ruled B f r
-
-    pub removal-says : (a : Removed) → (removalOf b labels v l standing ≡ a) ↔ RemovalAnswer b labels v l standing a
-    removal-says a = ((λ e. subst (RemovalAnswer b labels v l standing) e removal-answer), answer-removal)
 
 -- THE STANDING BYTES after the call
 pub when-refused : (a : Removed) → a ≢ Done → (cleared kept : List ℕ) → whenDone a cleared kept ≡ kept
@@ -204,3 +214,37 @@ module _ (b labels : List ℕ) (v l : ℕ) where
   pub done-leaves : (standing : List ℕ) → removalOf b labels v l standing ≡ Done
       → TakenOut b labels v l standing (leftOf b labels v l standing)
   done-leaves standing e = rw (left-done standing e) (cleared-taken standing (done-fits b labels v l standing e .marked .long))
+
+-- THE ANSWER AND THE BYTES exactly where document 01 says so
+module _ (b labels : List ℕ) (v l : ℕ) (standing : List ℕ) (B : Bytes labels) where
+  abbrev Gives : Removed → List ℕ → Type 0
+  Gives x after = (removalOf b labels v l standing ≡ x) × (leftOf b labels v l standing ≡ after)
+
+  refusing : {x : Removed} → removalOf b labels v l standing ≡ x → x ≢ Done → Gives x standing
+  refusing e n = (e, left-kept b labels v l standing (λ z. n (sym e ∙ z)))
+
+  answer-gives : {x : Removed} {after : List ℕ} → RemovalAnswer b labels v l standing x after → Gives x after
+  answer-gives (opening o) = refusing (removal-refused b labels v l standing o) (opening-refuses b labels standing o)
+  answer-gives (refused f x) =
+      let (a, r, e) = refused-rule x in refusing (removal-ruled b labels v l standing B f r ∙ e) (loop-refuses x)
+  answer-gives (taken f c t) =
+      let e = removal-ruled b labels v l standing B f (chart-goes c) in
+      (e, one-taken (only? v l) (f .marked .long) (done-leaves b labels v l standing e) t)
+
+  -- some answer is meant
+  abbrev Answered : Type 0
+  Answered = RemovalAnswer b labels v l standing (removalOf b labels v l standing) (leftOf b labels v l standing)
+
+  given : {x : Removed} {after : List ℕ} → RemovalAnswer b labels v l standing x after → Answered
+  given h = let (e, f) = answer-gives h in rw (e, f) h
+
+  removal-answer : Answered
+  removal-answer =
+      opening-stages b labels standing (λ a o. given (opening o))
+      (λ f. ⊎-elim (λ c. given (taken f c (cleared-taken b labels v l standing (f .marked .long)))) (λ x. given (refused f x))
+      (rule-or (rule-says b labels v l standing B (f .formed))))
+
+  pub removal-says : (x : Removed) (after : List ℕ)
+      → ((removalOf b labels v l standing ≡ x) × (leftOf b labels v l standing ≡ after))
+      ↔ RemovalAnswer b labels v l standing x after
+  removal-says x after = ((λ (e, f). rw (e, f) at removal-answer), answer-gives)

@@ -1,22 +1,23 @@
 -- Several loops together over bytes: the tests say what document 02 says, both ways; the loops go one by one too, in every
 -- order, and leave the same bytes; and over a chart and labels that pass 57 never comes.
 use Prim.Native.Nat.{ℕ}
-use mathlib.Core.Path.{_≡_, refl, sym, _∙_, ap, ap₂, subst}
-use mathlib.Core.Logic.{_≢_, _⊎_, inl, inr, ⊎-elim, _↔_, Iff·symm, Iff·trans, by-cases}
+use mathlib.Core.Path.{_≡_, refl, sym, _∙_, ap, ap₂}
+use mathlib.Core.Logic.{_≢_, inl, inr, ⊎-elim, _↔_, Iff·symm, Iff·trans, by-cases}
 use mathlib.Core.Bool.{Bool, true, false, cond, true≢false}
 use mathlib.Core.List.{List, [], _∷_, map, List·Memᴰ·head, List·Memᴰ·tail, List·Memᴰ·cases-cons, List·Memᴰ·not-nil, List·Permᴰ, Permᴰ·symm}
 use native.Mathlib.Omega.{arith}
 use lib.ListN.{length}
-use Rattle.theory.specs.Charts.{Loop}
+use Rattle.theory.specs.Charts.{Steps, Loop}
 use Rattle.theory.specs.Standing.{Loops, SameLoops}
 use Rattle.theory.specs.Orders.{Pair, Listing, Distinct}
-use Rattle.theory.specs.Removals.{Answer, done, refused-51, refused-52}
-use Rattle.theory.specs.MultiSteps.{GroupAnswer, single, refused-57, RemovesTogether, refused, inside, goes}
+use Rattle.theory.specs.Removals.{done}
+use Rattle.theory.specs.MultiSteps.{GroupAnswer, single, RemovesTogether, refused, inside, goes}
 use Rattle.theory.specs.RemovalTests.{groupAnswer}
 use Rattle.theory.proofs.Tests.{decided, is-false}
 use Rattle.theory.proofs.RemovalTests.{group-answer}
+use Rattle.theory.proofs.Removals.{one-answer}
 use Rattle.theory.proofs.MultiSteps.{pair-same, without-listed, multi-iff, one-group-answer, Apart, together-apart, perm-member}
-use Rattle.theory.proofs.MultiSteps.{apart-perm, apart-rest, apart-first, none-inside}
+use Rattle.theory.proofs.MultiSteps.{apart-perm, apart-rest, apart-first, none-inside, goes-chart, chart-goes}
 use Rattle.report.specs.declared.Removed.{Removed}
 use Rattle.report.specs.declared.Removed.the-variants.{Done}
 use Rattle.report.specs.declared.Together.{Together}
@@ -27,13 +28,13 @@ use Rattle.chart.specs.Steps.{StepsOf, StandingOf}
 use Rattle.chart.specs.Standing.{StandsFor, TakenOut, TakenOutOf}
 use Rattle.chart.proofs.Standing.{only?, stands-agree, taken-leaves, taken-stands, one-taken}
 use Rattle.elimination.specs.Removals.{removedAs, standsTest, removalOf, leftOf, clearedFrom, answersOf, leftAfter}
-use Rattle.elimination.specs.RemovalAnswers.{Fits, OpeningAnswer}
+use Rattle.elimination.specs.RemovalAnswers.{Fits, OpeningAnswer, LoopRefused}
 use Rattle.elimination.specs.Together.{loopsOf, togetherAs, whenAllDone, groupOf, togetherOf, clearedAll, leftTogether}
-use Rattle.elimination.specs.TogetherAnswers.{LoopListFits, TogetherAnswer, opening, other-list, ruled, taken}
+use Rattle.elimination.specs.TogetherAnswers.{LoopListFits, TogetherAnswer, opening, other-list, first-refused, start-inside, taken}
 use Rattle.elimination.specs.LoopLists.{isAllDone}
 use Rattle.elimination.proofs.Removals.{tests-stands, standing-formed, standing-labels, opening-stages, on-refusal}
 use Rattle.elimination.proofs.Removals.{on-fits, opening-refuses, removal-ruled, cleared-taken, when-refused}
-use Rattle.elimination.proofs.Removals.{done-leaves}
+use Rattle.elimination.proofs.Removals.{rule-or, refused-rule, loop-refuses, done-leaves}
 use Rattle.elimination.proofs.Answers.{done-true}
 use Rattle.elimination.proofs.Lists.{Passing, formed}
 use Rattle.elimination.proofs.LoopLists.{listed?, tests-loop-list, fits-taken, nothing-taken, taken-then, taken-same}
@@ -109,78 +110,82 @@ module _ (b labels loops standing : List ℕ) where
   list-refuses : LoopList ≢ Removal Done
   list-refuses e = let z : _≡_ {A = ℕ} 0 1 = cc in omega arith
 
-  pub opening-kept : {a : Removed} → OpeningAnswer b labels standing a → Removal a ≢ Removal Done
+  opening-kept : {a : Removed} → OpeningAnswer b labels standing a → Removal a ≢ Removal Done
   opening-kept o e = opening-refuses b labels standing o cc
 
-  done-or : (g : GroupAnswer) → (g ≡ single done) ⊎ (togetherAs g ≢ Removal Done)
-  done-or (single done) = inl refl
-  done-or (single (refused-51 v l)) = inr (λ e. let z : _≡_ {A = ℕ} 0 1 = cc in omega arith)
-  done-or (single (refused-52 v l r)) = inr (λ e. let z : _≡_ {A = ℕ} 0 1 = cc in omega arith)
-  done-or (refused-57 p) = inr (λ e. let z : _≡_ {A = ℕ} 0 1 = cc in omega arith)
+  inside-refuses : (p : ℕ) → StartInside p ≢ Removal Done
+  inside-refuses p e = let z : _≡_ {A = ℕ} 0 1 = cc in omega arith
+
+  first-refuses : {R : Steps} {v l : ℕ} {a : Removed} → LoopRefused R v l a → Removal a ≢ Removal Done
+  first-refuses x e = loop-refuses x cc
 
   together-fits : togetherOf b labels loops standing ≡ Removal Done → Fits b labels standing
   together-fits e = opening-stages b labels standing (λ a o. absurd (opening-kept o (sym (together-refused o) ∙ e))) (λ f. f)
 
   -- THE ANSWER AND THE BYTES exactly where document 02 says so
   module _ (B : Bytes labels) where
-    ruled-answers : Fits b labels standing → LoopListFits loops
-        → TogetherAnswer b labels loops standing (togetherOf b labels loops standing) (leftTogether b labels loops standing)
-    ruled-answers f l =
-        let R = StandingOf b labels standing in
-        let g : GroupAnswer = groupAnswer (standsTest b labels standing) (verticesOf b) 256 (loopsOf loops) in
-        let r : RemovesTogether R (loopsOf loops) g = group-says B f in
-        let e : togetherOf b labels loops standing ≡ togetherAs g = together-ruled B f l r in
-        ⊎-elim
-        (λ z. let d : togetherOf b labels loops standing ≡ Removal Done = e ∙ ap togetherAs z in
-        let t = together-leaves f d in
-        rw d (taken f l (multi-iff .1 (
-          l .once,
-          subst (RemovesTogether R (loopsOf loops)) z r,
-          λ u m w. Iff·trans (taken-leaves (listed? (loopsOf loops)) t u m w) (Iff·symm (without-listed R (loopsOf loops) u m w)),
-        )) t))
-        (λ n. rw (together-kept (λ z. n (sym e ∙ z)), e) (ruled f l r (λ z. n (ap togetherAs z))))
-        (done-or g)
+    abbrev Gives : Together → List ℕ → Type 0
+    Gives x after = (togetherOf b labels loops standing ≡ x) × (leftTogether b labels loops standing ≡ after)
 
-    together-answer : TogetherAnswer b labels loops standing (togetherOf b labels loops standing) (leftTogether b labels loops standing)
-    together-answer =
-        opening-stages b labels standing
-        (λ a o. let e = together-refused o in rw (together-kept (λ z. opening-kept o (sym e ∙ z)), e) (opening o))
-        (λ f. by-cases (decided (tests-loop-list loops)) (ruled-answers f)
-        (λ n. let e = together-list f n in rw (together-kept (λ z. list-refuses (sym e ∙ z)), e) (other-list f n)))
-
-    refusing : {a : Together} → togetherOf b labels loops standing ≡ a → a ≢ Removal Done
-        → (togetherOf b labels loops standing ≡ a) × (leftTogether b labels loops standing ≡ standing)
+    refusing : {x : Together} → togetherOf b labels loops standing ≡ x → x ≢ Removal Done → Gives x standing
     refusing e n = (e, together-kept (λ z. n (sym e ∙ z)))
 
-    answer-together : {a : Together} {after : List ℕ} → TogetherAnswer b labels loops standing a after
-        → (togetherOf b labels loops standing ≡ a) × (leftTogether b labels loops standing ≡ after)
-    answer-together (opening o) = refusing (together-refused o) (opening-kept o)
-    answer-together (other-list f n) = refusing (together-list f n) list-refuses
-    answer-together (ruled {g = g} f l r n) =
-        refusing (together-ruled B f l r) (⊎-elim (λ (z : g ≡ single done). absurd (n z)) (λ m. m) (done-or g))
-    answer-together (taken f l m t) =
+    answer-gives : {x : Together} {after : List ℕ} → TogetherAnswer b labels loops standing x after → Gives x after
+    answer-gives (opening o) = refusing (together-refused o) (opening-kept o)
+    answer-gives (other-list f n) = refusing (together-list f n) list-refuses
+    answer-gives (first-refused f l h before x) =
+        let (a, r, e) = refused-rule x in
+        let n : a ≢ done = λ z. loop-refuses x (sym e ∙ ap removedAs z) in
+        refusing (together-ruled B f l (refused h (λ j k. chart-goes (before j k)) r n) ∙ ap Removal e) (first-refuses x)
+    answer-gives (start-inside f l each s) =
+        refusing (together-ruled B f l (inside (λ i h. chart-goes (each i h)) s)) (inside-refuses _)
+    answer-gives (taken f l m t) =
         let e = together-ruled B f l (multi-iff .0 m .1) in
         (e, one-taken (listed? (loopsOf loops)) (f .marked .long) (together-leaves f e) t)
 
-    pub together-says : (a : Together) (after : List ℕ)
-        → ((togetherOf b labels loops standing ≡ a) × (leftTogether b labels loops standing ≡ after))
-        ↔ TogetherAnswer b labels loops standing a after
-    together-says a after = (
-      (λ (e, f). subst (TogetherAnswer b labels loops standing a) f
-          (subst (λ (x : Together). TogetherAnswer b labels loops standing x (leftTogether b labels loops standing)) e together-answer)),
-      answer-together,
-    )
+    -- some answer is meant
+    abbrev Answered : Type 0
+    Answered = TogetherAnswer b labels loops standing (togetherOf b labels loops standing) (leftTogether b labels loops standing)
+
+    given : {x : Together} {after : List ℕ} → TogetherAnswer b labels loops standing x after → Answered
+    given h = let (e, f) = answer-gives h in rw (e, f) h
+
+    ruled-answer : Fits b labels standing → LoopListFits loops → {g : GroupAnswer}
+        → RemovesTogether (StandingOf b labels standing) (loopsOf loops) g → Answered
+    ruled-answer f l (refused h before r n) =
+        ⊎-elim (λ c. absurd (n (one-answer r (chart-goes c))))
+        (λ x. given (first-refused f l h (λ j k. goes-chart (before j k)) x)) (rule-or r)
+    ruled-answer f l (inside each s) = given (start-inside f l (λ i h. goes-chart (each i h)) s)
+    ruled-answer f l (goes each n) =
+        let t = cleared-all b labels (loopsOf loops) standing (f .marked .long) in
+        let R = StandingOf b labels standing in
+        given (taken f l (multi-iff .1 (
+          l .once,
+          goes each n,
+          λ u m w. Iff·trans (taken-leaves (listed? (loopsOf loops)) t u m w) (Iff·symm (without-listed R (loopsOf loops) u m w)),
+        )) t)
+
+    together-answer : Answered
+    together-answer =
+        opening-stages b labels standing (λ a o. given (opening o))
+        (λ f. by-cases (decided (tests-loop-list loops)) (λ l. ruled-answer f l (group-says B f)) (λ n. given (other-list f n)))
+
+    pub together-says : (x : Together) (after : List ℕ)
+        → ((togetherOf b labels loops standing ≡ x) × (leftTogether b labels loops standing ≡ after))
+        ↔ TogetherAnswer b labels loops standing x after
+    together-says x after = ((λ (e, f). rw (e, f) at together-answer), answer-gives)
 
     -- done: what is asked passes, and the loops go together
     pub together-done : togetherOf b labels loops standing ≡ Removal Done
         → Fits b labels standing × LoopListFits loops × RemovesTogether (StandingOf b labels standing) (loopsOf loops) (single done)
-    together-done e = go (together-says _ _ .0 (refl, refl)) e
+    together-done e = go together-answer e
       where
         go : {a : Together} {after : List ℕ} → TogetherAnswer b labels loops standing a after → a ≡ Removal Done
             → Fits b labels standing × LoopListFits loops × RemovesTogether (StandingOf b labels standing) (loopsOf loops) (single done)
         go (opening o) z = absurd (opening-kept o z)
         go (other-list f n) z = absurd (list-refuses z)
-        go (ruled {g = g} f l r n) z = absurd (⊎-elim (λ (d : g ≡ single done). n d) (λ m. m z) (done-or g))
+        go (first-refused f l h before x) z = absurd (first-refuses x z)
+        go (start-inside f l each s) z = absurd (inside-refuses _ z)
         go (taken f l m t) z = (f, l, multi-iff .0 m .1)
 
 -- WHAT THE CALL LEAVES, by whether its answer is done
@@ -253,18 +258,12 @@ empty-together b labels standing B f =
 pub passing-not-57 : {b labels : List ℕ} → Passing b labels → {standing : List ℕ} {X : Loops}
     → ((v l : ℕ) → X v l → Loop (StepsOf b labels) v l) → StandsFor b labels standing X
     → (loops : List ℕ) (p : ℕ) → togetherOf b labels loops standing ≢ StartInside p
-passing-not-57 {b} {labels} c {standing} loops-of h loops p e = go (together-says b labels loops standing (c .bytes) _ _ .0 (refl, refl)) e
+passing-not-57 {b} {labels} c {standing} loops-of h loops p e = go (together-answer b labels loops standing (c .bytes)) e
   where
-    not-57 : {g : GroupAnswer} → RemovesTogether (StandingOf b labels standing) (loopsOf loops) g → togetherAs g ≢ StartInside p
-    not-57 (refused {a = a} i before r n) z = absurd (single-not a z)
-      where
-        single-not : (x : Answer) → Removal (removedAs x) ≢ StartInside p
-        single-not x y = let w : _≡_ {A = ℕ} 0 1 = cc in omega arith
-    not-57 (inside each l) z = none-inside (formed c) (c .passed) loops-of (stands-agree h) (loopsOf loops) each _ (l .holds)
-    not-57 (goes each n) z = let w : _≡_ {A = ℕ} 0 1 = cc in omega arith
-
-    go : {a : Together} {after : List ℕ} → TogetherAnswer b labels loops standing a after → a ≢ StartInside p
+    go : {x : Together} {after : List ℕ} → TogetherAnswer b labels loops standing x after → x ≢ StartInside p
     go (opening o) z = let w : _≡_ {A = ℕ} 0 1 = cc in omega arith
     go (other-list f n) z = let w : _≡_ {A = ℕ} 0 1 = cc in omega arith
-    go (ruled f l r n) z = not-57 r z
+    go (first-refused f l i before r) z = let w : _≡_ {A = ℕ} 0 1 = cc in omega arith
+    go (start-inside f l each s) z =
+        none-inside (formed c) (c .passed) loops-of (stands-agree h) (loopsOf loops) (λ i k. chart-goes (each i k)) _ (s .holds)
     go (taken f l m t) z = let w : _≡_ {A = ℕ} 0 1 = cc in omega arith

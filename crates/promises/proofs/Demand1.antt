@@ -1,38 +1,28 @@
 -- Demand 1, by the numbers, proved: the check answers n p q r exactly where document 01's sentence for n holds with these
--- places, and so do the writing of the expression's chart and the removal of a loop.
+-- places.
 use mathlib.Core.Path.{_≡_, refl, sym, _∙_, ap, subst}
 use mathlib.Core.Logic.{_≢_, inl, inr, _↔_, by-cases}
-use mathlib.Core.Bool.{Bool, true, false, cond, false≢true}
+use mathlib.Core.Bool.{Bool, true, false, false≢true}
 use mathlib.Core.List.{List}
 use Prim.Native.Nat.{ℕ, suc, _<_}
 use native.Mathlib.Decide.{ℕ-discrete}
 use native.Mathlib.Omega.{arith}
-use lib.Dec.{ltb}
 use lib.ListN.{length}
-use borrow.Author.Tests.{lt-ltb, le-ltb, ltb-true, ltb-false}
-use Rattle.theory.specs.Removals.{Answer, Removes}
-use Rattle.report.specs.Numbers.{four, placeNumbers, verdictNumbers, writtenNumbers, removedNumbers}
-use Rattle.report.proofs.NumberLaws.{one-verdict, one-removed}
-use Rattle.report.specs.declared.Numbers.{Numbers}
+use Rattle.report.specs.Numbers.{four, placeNumbers, verdictNumbers}
+use Rattle.report.proofs.NumberLaws.{one-verdict}
 use Rattle.report.specs.declared.Labelled.{Labelled}
 use Rattle.report.specs.declared.Labelled.the-variants as labelled
 use Rattle.report.specs.declared.Place.{Place}
 use Rattle.report.specs.declared.Place.the-variants as place
-use Rattle.report.specs.declared.Removed.{Removed}
-use Rattle.report.specs.declared.Removed.the-variants as removed
-use Rattle.report.specs.declared.Stage.{Stage}
 use Rattle.report.specs.declared.Stage.the-variants as stage
 use Rattle.report.specs.declared.Verdict.{Verdict}
 use Rattle.report.specs.declared.Verdict.the-variants.{Accepted, Refused}
-use Rattle.report.specs.declared.Written.the-variants as written
 use Rattle.bits.specs.Bits.{Bytes}
 use Rattle.chart.specs.Checks as chart
-use Rattle.chart.specs.Steps.{StandingOf}
 use Rattle.chart.proofs.Checks.{check-passed, check-20, check-21}
 use Rattle.chart.proofs.Refusals.{refused-cases}
 use Rattle.expression.specs.Table as nodes
-use Rattle.expression.specs.Table.{NodesChecked, passed, ill-sized, malformed-at, misused-at}
-use Rattle.expression.specs.Body.{bodyOf, writtenAfter, writtenOf}
+use Rattle.expression.specs.Table.{NodesChecked, ill-sized, malformed-at, misused-at}
 use Rattle.expression.proofs.Table.{checked, checked-is, passed→well-formed, well-formed→passed}
 use Rattle.expression.proofs.Chart.{body-vertices, body-start}
 use Rattle.witness.specs.Labellings.{labelledOf}
@@ -42,15 +32,12 @@ use Rattle.witness.proofs.Labellings.{labelled-says, labelled-iff-witness}
 use Rattle.bisimulation.specs.RelationAnswers.{RelationAnswer}
 use Rattle.bisimulation.specs.RelationAnswers as relation
 use Rattle.bisimulation.proofs.Relations.{relation-says}
-use Rattle.elimination.specs.Removals.{removedAs, removalOf, leftOf}
-use Rattle.elimination.specs.RemovalAnswers.{Fits, other-header, faulty-at, other-length, other-standing, RemovalAnswer, opening, ruled}
-use Rattle.elimination.proofs.Removals.{removal-says, done-leaves, left-kept}
 use Rattle.verdict.specs.Files.{recordsOf, Whole, RecordsChecked, too-long, cut-header, other-kind, cut-body, bytes-after}
 use Rattle.verdict.specs.Verdicts.{nodesIn, chartIn, labelsIn, relationIn, verdictOf, Fails, records-fail, nodes-fail, chart-fails, labels-fail, relation-fails}
 use Rattle.verdict.proofs.Files.{records-checked, checked-records, records-iff}
 use Rattle.verdict.proofs.Verdicts.{refused-iff}
 use Rattle.promises.specs.Accepted.{Holds}
-use Rattle.promises.specs.Demand1.{FirstMalformed, FirstNotUsedOnce, NodesPass, ChartPasses, LabelsPass, expressionIn, Sentence, SentenceFor, says-0, says-1, says-2, says-3, says-4, says-10, says-11, says-12, says-20, says-21, says-30, says-31, says-32, says-33, says-34, says-35, says-40, says-41, says-42, says-43, says-44, says-45, ChartSentence, ChartSentenceFor, written-0, written-10, written-11, written-12, written-54, LoopStands, RemovalSentence, RemovalSentenceFor, removed-0, removed-20, removed-21, removed-30, removed-50, removed-51, removed-52-1, removed-52-2, removed-52-3, RemovalLeaves}
+use Rattle.promises.specs.Demand1.{FirstMalformed, FirstNotUsedOnce, NodesPass, ChartPasses, LabelsPass, expressionIn, Sentence, SentenceFor, says-0, says-1, says-2, says-3, says-4, says-10, says-11, says-12, says-20, says-21, says-30, says-31, says-32, says-33, says-34, says-35, says-40, says-41, says-42, says-43, says-44, says-45}
 use Rattle.promises.proofs.Accepted.{part-bytes, accepted-iff-holds}
 
 -- THE NODES
@@ -60,16 +47,16 @@ good-or false h = absurd (h refl)
 
 module _ (s : List ℕ) where
   -- a sentence of 10, 11 or 12 is the answer of the nodes' checks
-  check-10 : ¬ nodes.Sized s → nodes.checkOf s ≡ stage.Refused (place.NodesLength (length s))
+  pub check-10 : ¬ nodes.Sized s → nodes.checkOf s ≡ stage.Refused (place.NodesLength (length s))
   check-10 h = sym (checked-is (ill-sized h))
 
-  check-11 : {p : ℕ} → FirstMalformed s p → nodes.checkOf s ≡ stage.Refused (place.Node p)
+  pub check-11 : {p : ℕ} → FirstMalformed s p → nodes.checkOf s ≡ stage.Refused (place.Node p)
   check-11 {p} (z, l) = sym (checked-is (malformed-at p z (l .holds .0) (l .holds .1) good))
     where
       good : (k : ℕ) → k < p → nodes.isGood (nodes.node s k) ≡ true
       good k h = good-or _ (λ e. l .lowest k h (omega (arith, l .holds .0), e))
 
-  check-12 : {p : ℕ} → FirstNotUsedOnce s p → nodes.checkOf s ≡ stage.Refused (place.NodeUses p (nodes.usesOf s p))
+  pub check-12 : {p : ℕ} → FirstNotUsedOnce s p → nodes.checkOf s ≡ stage.Refused (place.NodeUses p (nodes.usesOf s p))
   check-12 {p} (z, g, l) = sym (checked-is (misused-at p z (λ k h. good-or _ (λ e. g k (h, e))) (l .holds .0) (l .holds .1) once))
     where
       once : (j : ℕ) → j < p → nodes.usesOf s j ≡ 1
@@ -77,11 +64,11 @@ module _ (s : List ℕ) where
           by-cases (ℕ-discrete (nodes.usesOf s j) 1) (λ e. e) (λ e. absurd (l .lowest j h (omega (arith, l .holds .0), e)))
 
   -- and the other way: where it refuses, one of them holds
-  first-malformed : {p : ℕ} → nodes.Sized s → p < nodes.count s → nodes.isGood (nodes.node s p) ≡ false
+  pub first-malformed : {p : ℕ} → nodes.Sized s → p < nodes.count s → nodes.isGood (nodes.node s p) ≡ false
       → ((k : ℕ) → k < p → nodes.isGood (nodes.node s k) ≡ true) → FirstMalformed s p
   first-malformed z h e low = (z, record { holds = (h, e); lowest = λ k g q. false≢true (sym (q .1) ∙ low k g) })
 
-  first-misused : {p : ℕ} → nodes.Sized s → ((k : ℕ) → k < nodes.count s → nodes.isGood (nodes.node s k) ≡ true)
+  pub first-misused : {p : ℕ} → nodes.Sized s → ((k : ℕ) → k < nodes.count s → nodes.isGood (nodes.node s k) ≡ true)
       → suc p < nodes.count s → nodes.usesOf s p ≢ 1 → ((j : ℕ) → j < p → nodes.usesOf s j ≡ 1) → FirstNotUsedOnce s p
   first-misused z g h e low = (
     z,
@@ -240,104 +227,3 @@ module _ (f : List ℕ) (bytes : Bytes f) where
     (λ e. accepted-iff-holds f bytes v t l .0 (one-verdict (verdictOf f) (Accepted v t l) e)),
     (λ h. sentence-answers (says-0 h)),
   )
-
--- WRITING THE EXPRESSION'S CHART into so many lent bytes
-module _ (s : List ℕ) (lent : ℕ) where
-  nodes-refuse : {p : Place} → nodes.checkOf s ≡ stage.Refused p → writtenNumbers (writtenOf s lent) ≡ placeNumbers p
-  unfolding writtenOf
-  nodes-refuse e = rw e
-
-  written-answers : {n p q r : ℕ} → ChartSentence s lent n p q r → writtenNumbers (writtenOf s lent) ≡ four n p q r
-  unfolding writtenOf
-  written-answers (written-0 w h) = rw (well-formed→passed s w, le-ltb lent (length (bodyOf s)) h)
-  written-answers (written-10 h) = nodes-refuse (check-10 s h)
-  written-answers (written-11 h) = nodes-refuse (check-11 s h)
-  written-answers (written-12 h) = nodes-refuse (check-12 s h)
-  written-answers (written-54 w h) = rw (well-formed→passed s w, lt-ltb lent (length (bodyOf s)) h)
-
-  written-says : ChartSentenceFor s lent (writtenNumbers (writtenOf s lent))
-  unfolding writtenOf
-  written-says = go (nodes.checkOf s) (checked s)
-    where
-      needed : ℕ
-      needed = length (bodyOf s)
-
-      fits : nodes.WellFormed s → (b : Bool) → ltb lent needed ≡ b
-          → ChartSentenceFor s lent (writtenNumbers (cond b (written.Refused (place.OutputLength needed)) (written.Length needed)))
-      fits w true e = written-54 w (ltb-true _ _ e)
-      fits w false e = written-0 w (ltb-false _ _ e)
-
-      go : (x : Stage) → NodesChecked s x → ChartSentenceFor s lent (writtenNumbers (writtenAfter x (length (bodyOf s)) lent))
-      go _ (passed w) = fits w (ltb lent (length (bodyOf s))) refl
-      go _ (ill-sized h) = written-10 h
-      go _ (malformed-at p z h e low) = written-11 (first-malformed s z h e low)
-      go _ (misused-at p z g h e low) = written-12 (first-misused s z g h e low)
-
-  -- IT ANSWERS n p q r exactly where the sentence for n holds with these places
-  pub chart-numbers : (n p q r : ℕ) → (writtenNumbers (writtenOf s lent) ≡ four n p q r) ↔ ChartSentence s lent n p q r
-  chart-numbers n p q r = ((λ e. subst (ChartSentenceFor s lent) e written-says), written-answers)
-
--- TAKING OUT A LOOP
-module _ (b labels : List ℕ) (bytes : Bytes labels) (v l : ℕ) (standing : List ℕ) where
-  answered : {a : Removed} → RemovalAnswer b labels v l standing a
-      → removedNumbers (removalOf b labels v l standing) ≡ removedNumbers a
-  answered {a} h = ap removedNumbers (removal-says b labels v l standing bytes a .1 h)
-
-  by-rule : {a : Answer} → LoopStands b labels v l standing → Removes (StandingOf b labels standing) v l a
-      → removedNumbers (removalOf b labels v l standing) ≡ removedNumbers (removedAs a)
-  by-rule s r = answered (ruled (s .fits) r)
-
-  removal-answers : {n p q r : ℕ} → RemovalSentence b labels v l standing n p q r
-      → removedNumbers (removalOf b labels v l standing) ≡ four n p q r
-  removal-answers (removed-0 s c) = by-rule s (Removes.goes (s .entry) c)
-  removal-answers (removed-20 h) = answered (opening (other-header h))
-  removal-answers (removed-21 h f) = answered (opening (faulty-at h f))
-  removal-answers (removed-30 W h) = answered (opening (other-length W h))
-  removal-answers (removed-50 W h n) = answered (opening (other-standing W h n))
-  removal-answers (removed-51 f h) = answered (ruled f (Removes.absent h))
-  removal-answers (removed-52-1 s h) = by-rule s (Removes.breaks-L1 (s .entry) h)
-  removal-answers (removed-52-2 s p h) = by-rule s (Removes.breaks-L2 (s .entry) p h)
-  removal-answers (removed-52-3 s p c e) = by-rule s (Removes.breaks-L3 (s .entry) p c e)
-
-  pub rule-says : {a : Answer} → Fits b labels standing → Removes (StandingOf b labels standing) v l a
-      → RemovalSentenceFor b labels v l standing (removedNumbers (removedAs a))
-  rule-says f (Removes.absent h) = removed-51 f h
-  rule-says f (Removes.goes o c) = removed-0 (record { fits = f; entry = o }) c
-  rule-says f (Removes.breaks-L1 o h) = removed-52-1 (record { fits = f; entry = o }) h
-  rule-says f (Removes.breaks-L2 o p h) = removed-52-2 (record { fits = f; entry = o }) p h
-  rule-says f (Removes.breaks-L3 o p c e) = removed-52-3 (record { fits = f; entry = o }) p c e
-
-  answer-sentence : {a : Removed} → RemovalAnswer b labels v l standing a
-      → RemovalSentenceFor b labels v l standing (removedNumbers a)
-  answer-sentence (opening (other-header h)) = removed-20 h
-  answer-sentence (opening (faulty-at h f)) = removed-21 h f
-  answer-sentence (opening (other-length W h)) = removed-30 W h
-  answer-sentence (opening (other-standing W h n)) = removed-50 W h n
-  answer-sentence (ruled f r) = rule-says f r
-
-  -- IT ANSWERS n p q r exactly where the sentence for n holds with these places
-  pub removal-numbers : (n p q r : ℕ)
-      → (removedNumbers (removalOf b labels v l standing) ≡ four n p q r) ↔ RemovalSentence b labels v l standing n p q r
-  removal-numbers n p q r = (
-    (λ e. subst (RemovalSentenceFor b labels v l standing) e (answer-sentence (removal-says b labels v l standing bytes _ .0 refl))),
-    removal-answers,
-  )
-
-  -- AND LEAVES, where n is 0, 0 in the bytes of the loop's entries and all others as they were; else all as they were
-  done-zero : {n p q r : ℕ} → RemovalSentence b labels v l standing n p q r → n ≡ 0 → four n p q r ≡ four 0 0 0 0
-  done-zero (removed-0 s c) e = refl
-  done-zero (removed-20 h) e = absurd (omega arith)
-  done-zero (removed-21 h f) e = absurd (omega arith)
-  done-zero (removed-30 W h) e = absurd (omega arith)
-  done-zero (removed-50 W h n) e = absurd (omega arith)
-  done-zero (removed-51 f h) e = absurd (omega arith)
-  done-zero (removed-52-1 s h) e = absurd (omega arith)
-  done-zero (removed-52-2 s p h) e = absurd (omega arith)
-  done-zero (removed-52-3 s p c h) e = absurd (omega arith)
-
-  pub removal-leaves : {n p q r : ℕ} → removedNumbers (removalOf b labels v l standing) ≡ four n p q r
-      → RemovalLeaves b labels v l standing (leftOf b labels v l standing) n
-  removal-leaves {n} {p} {q} {r} e = record {
-    done = λ z. done-leaves b labels v l standing (one-removed _ removed.Done (e ∙ done-zero (removal-numbers n p q r .0 e) z));
-    refused = λ h. left-kept b labels v l standing (λ d. h (ap (λ (k : Numbers). k .n) (sym e ∙ ap removedNumbers d)));
-  }

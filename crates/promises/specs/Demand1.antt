@@ -1,6 +1,5 @@
 -- Demand 1, by the numbers: what document 01 says of each answer `n p q r` of the check, unused places 0, in the order
--- of its list of refusals; and the same for the expression's chart, for taking out a loop and for the follower. A
--- sentence for n has the checks before it pass.
+-- of its list of refusals; and the same for the follower. A sentence for n has the checks before it pass.
 use mathlib.Core.Path.{_≡_}
 use mathlib.Core.Logic.{_≢_, _⊎_, _↔_}
 use mathlib.Core.Bool.{false}
@@ -10,9 +9,7 @@ use lib.Dec.{ltb}
 use lib.ListN.{length}
 use Rattle.theory.specs.Ascending.{Ascending}
 use Rattle.theory.specs.Events as events
-use Rattle.theory.specs.Paths.{Edges, Star, Endless, Returns}
-use Rattle.theory.specs.Charts.{Steps, Loop}
-use Rattle.theory.specs.LoopCharts.{Around, LoopChart}
+use Rattle.theory.specs.Charts.{Steps}
 use Rattle.theory.specs.Least.{Least, FirstPair}
 use Rattle.theory.specs.Witnesses.{Witness, Connected}
 use Rattle.theory.specs.Checks.{Unreached, OnBranchCycle, NotLower}
@@ -22,15 +19,13 @@ use Rattle.report.specs.declared.Numbers.{Numbers}
 use Rattle.report.specs.Numbers.{followedNumbers}
 use Rattle.chart.specs.Bodies as chart
 use Rattle.chart.specs.Bodies.{verticesOf, startOf, countOf}
-use Rattle.chart.specs.Steps.{StepsOf, StandingOf}
-use Rattle.chart.specs.Standing.{TakenOut}
+use Rattle.chart.specs.Steps.{StepsOf}
 use Rattle.expression.specs.Table as nodes
 use Rattle.expression.specs.Body.{bodyOf}
 use Rattle.witness.specs.LabellingAnswers as labelling
 use Rattle.bisimulation.specs.Relations.{indexedOf}
 use Rattle.bisimulation.specs.Answers.{Related, StrayBit, RelationFits}
 use Rattle.bisimulation.specs.RelationAnswers.{Comes}
-use Rattle.elimination.specs.RemovalAnswers.{StandingFits, Fits}
 use Rattle.follower.specs.declared.Moved.{Moved}
 use Rattle.follower.specs.FollowerAnswers.{StateBytes, InState, FreshStart, SetPasses}
 use Rattle.verdict.specs.Files.{endAt, kindAt, offsetOf, HasHeader, Whole, RecordsBefore}
@@ -187,66 +182,6 @@ pub data Sentence (f : List ℕ) : (n p q r : ℕ) → Type 0 where
 -- the sentence for four numbers that are given as one value
 abbrev pub SentenceFor : List ℕ → Numbers → Type 0
 SentenceFor f k = Sentence f (k .n) (k .p) (k .q) (k .r)
-
--- WHAT EACH ANSWER OF WRITING THE EXPRESSION'S CHART SAYS, into so many lent bytes
-pub data ChartSentence (s : List ℕ) (lent : ℕ) : (n p q r : ℕ) → Type 0 where
-  -- nothing is refused: the length in bytes
-  written-0 : nodes.WellFormed s → length (bodyOf s) ≤ lent → ChartSentence s lent 0 (length (bodyOf s)) 0 0
-  -- the sequence's author, as above
-  written-10 : ¬ nodes.Sized s → ChartSentence s lent 10 (length s) 0 0
-  written-11 : {p : ℕ} → FirstMalformed s p → ChartSentence s lent 11 p 0 0
-  written-12 : {p : ℕ} → FirstNotUsedOnce s p → ChartSentence s lent 12 p (nodes.usesOf s p) 0
-  -- the caller: lent output too short; the bytes needed
-  written-54 : nodes.WellFormed s → lent < length (bodyOf s) → ChartSentence s lent 54 (length (bodyOf s)) 0 0
-
-abbrev pub ChartSentenceFor : List ℕ → ℕ → Numbers → Type 0
-ChartSentenceFor s lent k = ChartSentence s lent (k .n) (k .p) (k .q) (k .r)
-
--- TAKING OUT A LOOP. 20, 21, 30 and 50 pass, and some entry of the loop (v, l) stands
-pub record LoopStands (b labels : List ℕ) (v l : ℕ) (standing : List ℕ) : Type 0 where
-  pub fits : Fits b labels standing
-  pub entry : Loop (StandingOf b labels standing) v l
-
--- the chart of the loop where the bytes say what stands
-abbrev pub standingLoop : (b labels : List ℕ) (v l : ℕ) (standing : List ℕ) → Edges
-standingLoop b labels v l standing = Around (StandingOf b labels standing) v l
-
--- WHAT EACH ANSWER OF A REMOVAL SAYS
-pub data RemovalSentence (b labels : List ℕ) (v l : ℕ) (standing : List ℕ) : (n p q r : ℕ) → Type 0 where
-  -- done: the loop's chart is a loop chart
-  removed-0 : LoopStands b labels v l standing → LoopChart (standingLoop b labels v l standing) v
-      → RemovalSentence b labels v l standing 0 0 0 0
-  -- the chart's author and the labeller, as above
-  removed-20 : ¬ chart.HeaderFits b → RemovalSentence b labels v l standing 20 0 0 0
-  removed-21 : {p : ℕ} → chart.HeaderFits b → Least (chart.Faulty b) p → RemovalSentence b labels v l standing 21 p 0 0
-  removed-30 : chart.WellFormed b → length labels ≢ countOf b
-      → RemovalSentence b labels v l standing 30 (length labels) 0 0
-  -- the caller: standing bytes not one a transition, or not 0 or 1
-  removed-50 : chart.WellFormed b → length labels ≡ countOf b → ¬ StandingFits b standing
-      → RemovalSentence b labels v l standing 50 0 0 0
-  -- no such standing entry; the pair
-  removed-51 : Fits b labels standing → ¬ Loop (StandingOf b labels standing) v l
-      → RemovalSentence b labels v l standing 51 v l 0
-  -- not a loop; the pair, and the first that is broken: L1, no endless path
-  removed-52-1 : LoopStands b labels v l standing → ¬ Endless (standingLoop b labels v l standing) v
-      → RemovalSentence b labels v l standing 52 v l 1
-  -- L2, not every endless path returns to v
-  removed-52-2 : LoopStands b labels v l standing → Endless (standingLoop b labels v l standing) v
-      → ¬ Returns (standingLoop b labels v l standing) v → RemovalSentence b labels v l standing 52 v l 2
-  -- L3, it holds the end
-  removed-52-3 : LoopStands b labels v l standing → Endless (standingLoop b labels v l standing) v
-      → Returns (standingLoop b labels v l standing) v → Star (standingLoop b labels v l standing) v 0
-      → RemovalSentence b labels v l standing 52 v l 3
-
-abbrev pub RemovalSentenceFor : (b labels : List ℕ) (v l : ℕ) (standing : List ℕ) → Numbers → Type 0
-RemovalSentenceFor b labels v l standing k = RemovalSentence b labels v l standing (k .n) (k .p) (k .q) (k .r)
-
--- what an answer with the number n makes of the lent standing bytes
-pub record RemovalLeaves (b labels : List ℕ) (v l : ℕ) (before after : List ℕ) (n : ℕ) : Type 0 where
-  -- exactly the bytes of the transitions that leave v with the label l become 0, all others stay
-  pub done : n ≡ 0 → TakenOut b labels v l before after
-  -- a refusal changes none
-  pub refused : n ≢ 0 → after ≡ before
 
 -- THE FOLLOWER, on a state s. An action leads from some vertex of the set to w; it has a target
 abbrev pub Target : (b s : List ℕ) (a w : ℕ) → Type 0

@@ -1,6 +1,9 @@
 -- The demands as statements: all of it is meaning, there is no test here and nothing that only serves proofs.
--- each answer of the check, of the expression's chart, of a removal and of the follower, by its number
+-- each answer of the check and of the follower, by its number
 pub mod Demand1
+pub mod Numbered
+pub mod ExpressionChart
+pub mod Removal
 pub mod Demand2
 pub mod Demand3
 -- what an accepted file is
