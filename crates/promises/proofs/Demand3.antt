@@ -52,7 +52,7 @@ use Rattle.follower.specs.Lists.{ByRule}
 use Rattle.follower.proofs.Lists.{by-value-follows, in-place-follows, lent-follows, fresh-by-value, fresh-in-place, fresh-lent}
 use Rattle.verdict.specs.Verdicts.{nodesIn, chartIn, labelsIn, relationIn, verdictOf}
 use Rattle.verdict.proofs.Verdicts.{accepted-iff}
-use Rattle.promises.specs.Demand1.{stepsIn, expressionIn}
+use Rattle.promises.specs.Check.{stepsIn, expressionIn}
 use Rattle.promises.specs.Demand2.{chartSystem}
 use Rattle.promises.specs.Demand3.{allStanding, Remaining, EachRemoval, ended, call, plainNumbers, AgainstPlainSet, OrderExists, branchByte, RunsThrough, FollowerGives, ruleNumbers, rootIn, OneList, Demand3}
 use Rattle.promises.proofs.Accepted.{part-bytes}

@@ -18,7 +18,7 @@ use Rattle.expression.specs.Table.{NodesChecked, passed, ill-sized, malformed-a
 use Rattle.expression.specs.Body.{bodyOf, writtenOf, bufferAfter, bufferOf}
 use Rattle.expression.proofs.Table.{checked, well-formed→passed}
 use Rattle.promises.specs.ExpressionChart.{ChartAnswer, other-size, malformed, misused, too-short, written, ChartByNumbers}
-use Rattle.promises.proofs.Demand1.{check-10, check-11, check-12, first-malformed, first-misused}
+use Rattle.promises.proofs.Check.{check-10, check-11, check-12, first-malformed, first-misused}
 use Rattle.promises.proofs.Numbered.{by-numbers}
 
 module _ (s out : List ℕ) where

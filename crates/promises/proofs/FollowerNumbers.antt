@@ -26,7 +26,7 @@ use Rattle.follower.specs.States.{followedAs, noBytes, restartOf}
 use Rattle.follower.specs.FollowerAnswers.{StateBytes, InState, SetPasses, Ready, other-header, faulty-at, no-set, ruled, LentAnswer, other-chart, other-length, sixteen-bytes}
 use Rattle.follower.specs.Lists.{called, lentCalled}
 use Rattle.follower.proofs.Calls.{same-state, shown, refused-not, lent-sixteen, lent-says}
-use Rattle.promises.specs.Demand1.{Possible, Shown, FollowerSentence, FollowerSentenceFor, followed-20, followed-21, followed-53-length, followed-53, followed-restart, followed-taken, followed-not-possible, GivesNumbers}
+use Rattle.promises.specs.Follower.{Possible, Shown, FollowerSentence, FollowerSentenceFor, followed-20, followed-21, followed-53-length, followed-53, followed-restart, followed-taken, followed-not-possible, GivesNumbers}
 use Rattle.promises.specs.Demand2.{chartSystem}
 
 -- WHAT A SET SHOWS, and two numbers of it

@@ -13,11 +13,11 @@ use Rattle.report.proofs.NumberLaws.{one-together, only-57}
 use Rattle.bits.specs.Bits.{Bytes}
 use Rattle.chart.specs.Standing.{StandsFor}
 use Rattle.elimination.specs.RemovalAnswers.{Fits}
-use Rattle.elimination.specs.Together.{loopsOf}
+use Rattle.elimination.specs.Together.{loopsOf, togetherOf}
 use Rattle.elimination.proofs.TogetherCalls.{together-says, together-singles, together-stands, empty-together, passing-not-57}
 use Rattle.verdict.specs.Verdicts.{chartIn, labelsIn, verdictOf}
-use Rattle.promises.specs.Demand1.{stepsIn}
-use Rattle.promises.specs.LoopsTogether.{TogetherGives, TogetherByNumbers, InEveryOrder, EmptyDone, OverAccepted}
+use Rattle.promises.specs.Check.{stepsIn}
+use Rattle.promises.specs.LoopsTogether.{TogetherByNumbers, InEveryOrder, EmptyDone, OverAccepted}
 use Rattle.promises.proofs.Numbered.{by-numbers}
 use Rattle.promises.proofs.Demand3.{passing}
 
@@ -26,8 +26,8 @@ module _ (b labels loops standing : List ℕ) (B : Bytes labels) where
   together-numbers = by-numbers togetherNumbers (together-says b labels loops standing B)
 
   -- A LIST THAT IS DONE leaves the same bytes as its loops one by one, in every order, none refused
-  pub in-every-order : {t : List ℕ} → TogetherGives b labels loops standing (four 0 0 0 0) t → InEveryOrder b labels loops standing
-  in-every-order (e, f) ds p = together-singles b labels B loops standing (one-together _ (together.Removal removed.Done) e) p
+  pub in-every-order : togetherNumbers (togetherOf b labels loops standing) ≡ four 0 0 0 0 → InEveryOrder b labels loops standing
+  in-every-order e ds p = together-singles b labels B loops standing (one-together _ (together.Removal removed.Done) e) p
 
 -- THE EMPTY LIST is done, and leaves every byte
 pub empty-done : {b labels standing : List ℕ} → Bytes labels → Fits b labels standing → EmptyDone b labels standing

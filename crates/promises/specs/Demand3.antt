@@ -34,7 +34,7 @@ use Rattle.follower.specs.declared.Follower.{Follower}
 use Rattle.follower.specs.States.{restartOf, restartFrom, restartLent}
 use Rattle.follower.specs.Lists.{byValue, inPlace, lent}
 use Rattle.verdict.specs.Verdicts.{nodesIn, chartIn, labelsIn}
-use Rattle.promises.specs.Demand1.{stepsIn, expressionIn}
+use Rattle.promises.specs.Check.{stepsIn, expressionIn}
 
 -- all steps stand: every byte is 1
 abbrev pub allStanding : List ℕ → List ℕ

@@ -9,7 +9,7 @@ use Rattle.report.specs.declared.Written.the-variants.{Length, Refused}
 use Rattle.report.specs.Numbers.{writtenNumbers}
 use Rattle.expression.specs.Table as nodes
 use Rattle.expression.specs.Body.{bodyOf, writtenOf, bufferOf}
-use Rattle.promises.specs.Demand1.{FirstMalformed, FirstNotUsedOnce}
+use Rattle.promises.specs.Check.{FirstMalformed, FirstNotUsedOnce}
 use Rattle.promises.specs.Numbered.{ByNumbers}
 
 module _ (s out : List ℕ) where

@@ -1,4 +1,4 @@
--- Demand 1, by the numbers, proved: the check answers n p q r exactly where document 01's sentence for n holds with these
+-- The check, by the numbers, proved: it answers n p q r exactly where document 01's sentence for n holds with these
 -- places.
 use mathlib.Core.Path.{_≡_, refl, sym, _∙_, ap, subst}
 use mathlib.Core.Logic.{_≢_, inl, inr, _↔_, by-cases}
@@ -37,7 +37,7 @@ use Rattle.verdict.specs.Verdicts.{nodesIn, chartIn, labelsIn, relationIn, verd
 use Rattle.verdict.proofs.Files.{records-checked, checked-records, records-iff}
 use Rattle.verdict.proofs.Verdicts.{refused-iff}
 use Rattle.promises.specs.Accepted.{Holds}
-use Rattle.promises.specs.Demand1.{FirstMalformed, FirstNotUsedOnce, NodesPass, ChartPasses, LabelsPass, expressionIn, Sentence, SentenceFor, says-0, says-1, says-2, says-3, says-4, says-10, says-11, says-12, says-20, says-21, says-30, says-31, says-32, says-33, says-34, says-35, says-40, says-41, says-42, says-43, says-44, says-45}
+use Rattle.promises.specs.Check.{FirstMalformed, FirstNotUsedOnce, NodesPass, ChartPasses, LabelsPass, expressionIn, Sentence, SentenceFor, says-0, says-1, says-2, says-3, says-4, says-10, says-11, says-12, says-20, says-21, says-30, says-31, says-32, says-33, says-34, says-35, says-40, says-41, says-42, says-43, says-44, says-45}
 use Rattle.promises.proofs.Accepted.{part-bytes, accepted-iff-holds}
 
 -- THE NODES
