@@ -67,6 +67,7 @@ WEIGHBRIDGE = yard(
     },
 )
 
-here = Path(__file__).parent
-(here / "g.yard").write_bytes(G)
-(here / "weighbridge.yard").write_bytes(WEIGHBRIDGE)
+if __name__ == "__main__":
+    here = Path(__file__).parent
+    (here / "g.yard").write_bytes(G)
+    (here / "weighbridge.yard").write_bytes(WEIGHBRIDGE)
