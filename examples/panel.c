@@ -16,15 +16,15 @@ static uint8_t file[SEQ_LONGEST_FILE + 1];
 /* What is wrong, by the number of the refusal. */
 static const char *cause(uint64_t n)
 {
-    if (n <= 4)
+    if (n <= SEQ_BYTES_AFTER)
         return "the file did not arrive as it was made";
-    if (n <= 12)
+    if (n <= SEQ_NODE_USES)
         return "the order of work, record 1, is malformed";
-    if (n <= 21)
+    if (n <= SEQ_TRANSITION_MALFORMED)
         return "the chart, record 2, is malformed";
-    if (n <= 35)
+    if (n <= SEQ_LOOP_NOT_LOWER)
         return "the chart's loops are not what the labels, record 3, say";
-    if (n <= 45)
+    if (n <= SEQ_CHART_UNMATCHED)
         return "by record 4 the chart does not do what the order of work says";
     return "the follower's state is not what the call before has left";
 }
@@ -41,12 +41,12 @@ static void print_followed(seq_numbers said)
     printf("%s, end %s, offered %" PRIu64 "\n", said.p ? "taken" : "not possible", said.q ? "yes" : "no", said.r);
 }
 
-/* The shortest way to the end. After a call with the same chart and state, none but 55 can be refused. */
+/* The shortest way to the end. After a call with the same chart and state, no refusal but SEQ_NO_WAY comes. */
 static void print_way(const uint8_t *chart, size_t chart_len, const uint8_t *state)
 {
     uint8_t way[SEQ_LONGEST_WAY];
     seq_numbers said = seq_shortest_way(chart, chart_len, state, SEQ_STATE, way, sizeof way);
-    printf("way:%s", said.n == 55 ? " none" : said.p == 0 ? " at the end" : "");
+    printf("way:%s", said.n == SEQ_NO_WAY ? " none" : said.p == 0 ? " at the end" : "");
     for (uint64_t i = 0; i < said.p; i++)
         printf(" %d", way[i]);
     printf("\n");
@@ -116,7 +116,6 @@ int main(int count, char **words)
     if (said.n != 0)
         return refused(words[1], said);
     printf("accepted: vertices %" PRIu64 ", transitions %" PRIu64 ", loops %" PRIu64 "\n", said.p, said.q, said.r);
-    /* A record is the length of its body in two bytes, its kind in two, and the body; the chart is in the second. */
-    const uint8_t *second = file + 4 + file[0] + 256 * file[1];
-    return follow(second + 4, second[0] + 256u * second[1]);
+    seq_slice chart = seq_body(file, len, SEQ_CHART);
+    return follow(chart.bytes, chart.len);
 }

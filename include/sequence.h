@@ -2,8 +2,10 @@
  *
  * A slice is two arguments, a pointer and then its length in bytes; NULL with length 0 is an empty
  * slice. The slices of one call must not overlap. Whatever the bytes are, a call answers; it keeps no
- * pointer and no state, allocates nothing, and needs memcpy and memset. seq_check and seq_write_chart
- * need less than 128 KiB of stack, the others less than 32 KiB. */
+ * pointer and no state, allocates nothing, and needs memcpy and memset. So calls are reentrant, and any
+ * threads may make them at once: they may read the same bytes, and what one of them writes must not be lent
+ * to another meanwhile. seq_check and seq_write_chart need less than 128 KiB of stack, the others less than
+ * 32 KiB. */
 #ifndef SEQUENCE_H
 #define SEQUENCE_H
 
@@ -14,6 +16,12 @@
 extern "C" {
 #endif
 
+/* The version of this header. It goes to the next hundred where a program for the version before has to be
+ * looked at again: a call takes or answers something else, or a length such as SEQ_STATE is another. It goes
+ * up by one where something is only added. So a program for this version or a later one up to 199 may say
+ * `#if SEQ_VERSION / 100 != 1`, `#error`. */
+#define SEQ_VERSION 100
+
 /* n is the number of a refusal, as documents 01 and 02 have it, and p, q, r its places, unused ones 0.
  * Where nothing is refused n is 0 and p, q, r are what the call says below. */
 typedef struct seq_numbers {
@@ -22,6 +30,46 @@ typedef struct seq_numbers {
     uint64_t q;
     uint64_t r;
 } seq_numbers;
+
+/* The refusals by name: what n can be, besides 0. docs/REFUSALS.md has each in words, with an example and what
+ * to mend. */
+typedef enum seq_refusal {
+    /* The transfer. */
+    SEQ_FILE_TOO_LONG = 1,
+    SEQ_RECORD_INCOMPLETE = 2,
+    SEQ_RECORD_KIND = 3,
+    SEQ_BYTES_AFTER = 4,
+    /* The expression. */
+    SEQ_EXPRESSION_LENGTH = 10,
+    SEQ_NODE_MALFORMED = 11,
+    SEQ_NODE_USES = 12,
+    /* The chart. */
+    SEQ_CHART_HEAD = 20,
+    SEQ_TRANSITION_MALFORMED = 21,
+    /* The labelling. */
+    SEQ_LABELLING_LENGTH = 30,
+    SEQ_VERTEX_UNREACHED = 31,
+    SEQ_BRANCH_CYCLE = 32,
+    SEQ_LOOP_NO_RETURN = 33,
+    SEQ_LOOP_END_INSIDE = 34,
+    SEQ_LOOP_NOT_LOWER = 35,
+    /* The relation. */
+    SEQ_RELATION_LENGTH = 40,
+    SEQ_COLUMN_NO_VERTEX = 41,
+    SEQ_STARTS_UNRELATED = 42,
+    SEQ_END_RELATED = 43,
+    SEQ_EXPRESSION_UNMATCHED = 44,
+    SEQ_CHART_UNMATCHED = 45,
+    /* The caller. */
+    SEQ_STANDING_BYTES = 50,
+    SEQ_NO_ENTRY = 51,
+    SEQ_NOT_LOOP = 52,
+    SEQ_FOLLOWER_SET = 53,
+    SEQ_OUTPUT_TOO_SHORT = 54,
+    SEQ_NO_WAY = 55,
+    SEQ_LOOP_LIST = 56,
+    SEQ_START_INSIDE = 57
+} seq_refusal;
 
 /* The longest yard file, and the longest chart of an expression, in bytes. */
 #define SEQ_LONGEST_FILE 43536
@@ -35,6 +83,46 @@ typedef struct seq_numbers {
 
 /* The longest list of events that seq_shortest_way writes. */
 #define SEQ_LONGEST_WAY 127
+
+/* A yard file is four records of the kinds 1 to 4, in this order, and nothing after them. A record is the
+ * length of its body in two bytes, its kind in two, and the body; of two bytes the low one comes first.
+ *
+ * 1, expression: 1 to 127 nodes of four bytes, kind, action, left, right. Kind 0 is deadlock, 1 an action
+ *    from 1 to 255; 2 is a sum, 3 a product and 4 a star (left is repeated, right leaves) of the nodes left
+ *    and right, which have lower numbers. What a kind does not use is 0. The last node is the whole, and
+ *    each other one is used once.
+ * 2, chart: V, from 2 to 128, the start, from 1 to V - 1, and T in two bytes, at most 8,192; then T
+ *    transitions of four bytes, from, action, to and 0, in rising order. Vertex 0 is the end.
+ * 3, labelling: a byte for each transition, 0 for a branch, 1 to 255 for an entry of that level.
+ * 4, relation: a row of 16 bytes for each vertex of the expression's chart, which are one more than the
+ *    nodes. Row u has vertex v of the chart where byte v / 8 has the bit worth 2 to the power of v % 8. */
+enum { SEQ_EXPRESSION = 1, SEQ_CHART = 2, SEQ_LABELLING = 3, SEQ_RELATION = 4 };
+
+typedef struct seq_slice {
+    const uint8_t *bytes;
+    size_t len;
+} seq_slice;
+
+/* The body of record k of a file, k from 1 to 4: a part of the file's bytes. Any file will do, whether it
+ * is accepted or not; where it ends before the body does, and for every other k, the answer is NULL with
+ * length 0. The kinds in the headers are not looked at: seq_check does that. */
+static inline seq_slice seq_body(const uint8_t *file, size_t file_len, unsigned k)
+{
+    seq_slice body = {NULL, 0};
+    for (unsigned record = 1; record <= 4 && file_len >= 4; record++) {
+        size_t len = file[0] + 256u * file[1];
+        if (len > file_len - 4)
+            break;
+        if (record == k) {
+            body.bytes = file + 4;
+            body.len = len;
+            break;
+        }
+        file += 4 + len;
+        file_len -= 4 + len;
+    }
+    return body;
+}
 
 /* The verdict on a yard file.
  *

@@ -10,8 +10,11 @@ int main()
     const seq_numbers restarted = seq_restart(nullptr, 0, nullptr, 0);
     const seq_numbers followed = seq_event(nullptr, 0, nullptr, 0, 1);
     const seq_numbers way = seq_shortest_way(nullptr, 0, nullptr, 0, nullptr, 0);
-    const bool read = checked.n == 2 && checked.p == 1 && written.n == 10 && written.p == 0;
-    const bool left = removed.n == 20 && together.n == 20;
-    const bool lent = restarted.n == 20 && followed.n == 20 && way.n == 20;
-    return read && left && lent ? 0 : 1;
+    const uint8_t file[] = {1, 0, SEQ_EXPRESSION, 0, 7};
+    const seq_slice body = seq_body(file, sizeof file, SEQ_EXPRESSION);
+    const bool read = checked.n == SEQ_RECORD_INCOMPLETE && checked.p == 1 && written.n == SEQ_EXPRESSION_LENGTH;
+    const bool left = removed.n == SEQ_CHART_HEAD && together.n == SEQ_CHART_HEAD;
+    const bool lent = restarted.n == SEQ_CHART_HEAD && followed.n == SEQ_CHART_HEAD && way.n == SEQ_CHART_HEAD;
+    const bool found = body.bytes == file + 4 && body.len == 1 && SEQ_VERSION / 100 == 1;
+    return read && left && lent && found ? 0 : 1;
 }

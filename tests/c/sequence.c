@@ -1,6 +1,6 @@
 /* Runs the C library: document 01's starred cases of the check, of the expression's chart, of the
- * removal and of the follower, loops taken out together, shortest ways, empty slices, the limits, and
- * lent buffers of each length that matters.
+ * removal and of the follower, loops taken out together, shortest ways, the bodies of a file, empty slices,
+ * the limits, and lent buffers of each length that matters.
  * Prints what is wrong and, last, the count of cases; exits with 1 where something is wrong. */
 #define _DEFAULT_SOURCE
 #include "sequence.h"
@@ -194,13 +194,15 @@ static void expect_g(const char *name, size_t at, const uint8_t *bytes, size_t l
     expect_check(name, file_bytes, sizeof G, want);
 }
 
+/* Where its bodies begin, and their lengths. */
+static const size_t G_STARTS[4] = {4, 20, G_LABELS, G_ROW_0};
+static const size_t G_LENS[4] = {12, 12, 2, 64};
+
 /* G's bodies, as a yard to change. */
 static void g_yard(yard *yard)
 {
-    static const size_t starts[4] = {4, 20, G_LABELS, G_ROW_0};
-    static const size_t lens[4] = {12, 12, 2, 64};
     for (int k = 0; k < 4; k++)
-        set_body(&yard->bodies[k], G + starts[k], lens[k]);
+        set_body(&yard->bodies[k], G + G_STARTS[k], G_LENS[k]);
 }
 
 /* Document 01's chart of two loops, one inside the other: vertex 1 enters vertex 2 or leaves to the
@@ -240,6 +242,62 @@ static void beginnings_of_g(void)
     for (size_t len = 0; len < sizeof G; len++) {
         uint64_t record = len < 16 ? 1 : len < 32 ? 2 : len < 38 ? 3 : 4;
         expect_check("a beginning of G", G, len, numbers(2, record, 0, 0));
+    }
+}
+
+/* The body of a record of a file: where it begins, or NOWHERE, and its length. */
+enum { NOWHERE = 0 };
+
+static void expect_body(const char *name, const uint8_t *file, size_t len, unsigned k, size_t start, size_t body_len)
+{
+    const uint8_t *lent = copy_before(file_end, file, len);
+    seq_slice body = seq_body(lent, len, k);
+    const uint8_t *want = start == NOWHERE ? NULL : lent + start;
+    cases++;
+    if (body.bytes != want || body.len != body_len) {
+        wrong++;
+        printf("wrong: %s\n  body %u has %zu bytes, wanted %zu from %zu on\n", name, k, body.len, body_len, start);
+    }
+}
+
+/* Of each beginning of G, and of G with more bytes, the bodies that are there. */
+static void bodies_of_g(void)
+{
+    memcpy(file_bytes, G, sizeof G);
+    memcpy(file_bytes + sizeof G, G, sizeof G);
+    for (size_t len = 0; len <= 2 * sizeof G; len++) {
+        for (unsigned k = 1; k <= 4; k++) {
+            if (G_STARTS[k - 1] + G_LENS[k - 1] <= len)
+                expect_body("a body of G", file_bytes, len, k, G_STARTS[k - 1], G_LENS[k - 1]);
+            else
+                expect_body("a body that G lacks", file_bytes, len, k, NOWHERE, 0);
+        }
+        expect_body("body 0", file_bytes, len, 0, NOWHERE, 0);
+        expect_body("body 5", file_bytes, len, 5, NOWHERE, 0);
+        expect_body("a body far off", file_bytes, len, (unsigned)-1, NOWHERE, 0);
+    }
+}
+
+/* Bodies of no bytes, of the most that two bytes can say, and of one more than there are; kinds do not matter. */
+static void bodies_of_other_files(void)
+{
+    memset(file_bytes, 0, 16);
+    for (unsigned k = 1; k <= 4; k++)
+        expect_body("an empty body", file_bytes, 16, k, 4 * k, 0);
+    memset(file_bytes, 0xFF, sizeof file_bytes);
+    for (unsigned k = 1; k <= 4; k++)
+        expect_body("65,535 bytes of a longer body", file_bytes, sizeof file_bytes - 1, k, NOWHERE, 0);
+    for (size_t len = 0; len < 300; len++) {
+        uint8_t head[304] = {(uint8_t)(len % 256), (uint8_t)(len / 256), 9, 9};
+        expect_body("a body of each length", head, len + 4, 1, 4, len);
+        expect_body("no second record", head, len + 4, 2, NOWHERE, 0);
+        if (len > 0)
+            expect_body("a byte too few", head, len + 3, 1, NOWHERE, 0);
+    }
+    cases++;
+    if (seq_body(NULL, 0, 1).bytes || seq_body(NULL, 0, 1).len != 0) {
+        wrong++;
+        printf("wrong: a body of no file\n");
     }
 }
 
@@ -1371,6 +1429,8 @@ int main(void)
     starred_checks();
     equal_levels_inside_each_other();
     beginnings_of_g();
+    bodies_of_g();
+    bodies_of_other_files();
     empty_slices();
     longest_file();
     past_the_limits_of_a_chart();
