@@ -1,101 +1,149 @@
-/* stack check FILE.., and so with removal, together, follower or way: how many bytes of stack the call uses. The call on
- * each file named is made on a thread of 128 KiB whose stack was filled with a pattern. */
+/* stack FILE..: how many bytes of stack each call uses, at most, over yard files, and how many sequence.h has for it. Exits
+ * with 1 where that is less. A call is made on a thread whose stack below it was filled with a pattern; before that it is
+ * made once, so that the linker's search for memcpy and memset is not counted. */
 #include "sequence.h"
 #include <pthread.h>
 #include <stdio.h>
 #include <stdlib.h>
 #include <string.h>
 
-enum { ROOM = 128 * 1024, LONGEST = 65536, PATTERN = 0xA5, LONGEST_WAY = 127 };
+enum { ROOM = 128 * 1024, OWN = 512, PATTERN = 0xA5 };
 
-static unsigned char file[LONGEST];
+static uint8_t file[SEQ_LONGEST_FILE + 1];
 static size_t length;
+static seq_slice chart;
+static seq_slice labels;
 
-static void *check(void *nothing) {
+static void check(void) {
     seq_check(file, length);
-    return nothing;
 }
 
-/* The file has the vertex and the level, then the chart, the labels and the standing bytes. */
-static void *removal(void *nothing) {
-    unsigned char *chart = file + 2;
-    size_t count = chart[2] + 256u * chart[3];
-    unsigned char *labels = chart + 4 + 4 * count;
-    seq_remove(chart, 4 + 4 * count, labels, count, file[0], file[1], labels + count, count);
-    return nothing;
+static void write_chart(void) {
+    static uint8_t out[SEQ_LONGEST_CHART];
+    seq_slice nodes = seq_body(file, length, SEQ_EXPRESSION);
+    seq_write_chart(nodes.bytes, nodes.len, out, sizeof out);
 }
 
-/* The file has the length of the list of loops and the list, then the chart, the labels and the standing bytes. */
-static void *together(void *nothing) {
-    unsigned char *loops = file + 1;
-    unsigned char *chart = loops + file[0];
-    size_t count = chart[2] + 256u * chart[3];
-    unsigned char *labels = chart + 4 + 4 * count;
-    seq_remove_together(chart, 4 + 4 * count, labels, count, loops, file[0], labels + count, count);
-    return nothing;
+static uint8_t standing[SEQ_LONGEST_FILE];
+/* The vertex and the level of the first loop; where there is none, no loop's. */
+static uint8_t loop[2];
+
+static void find_loop(void) {
+    memset(standing, 1, sizeof standing);
+    memset(loop, 0, sizeof loop);
+    for (size_t i = 0; loop[1] == 0 && i < labels.len && 8 + 4 * i <= chart.len; i++) {
+        loop[0] = chart.bytes[4 + 4 * i];
+        loop[1] = labels.bytes[i];
+    }
 }
 
-/* The file has 1 for an event or 0, the action, then the state and the chart. */
-static void *follower(void *nothing) {
-    unsigned char *state = file + 2;
-    unsigned char *chart = state + SEQ_STATE;
-    size_t chart_length = length - 2 - SEQ_STATE;
-    if (file[0])
-        seq_event(chart, chart_length, state, SEQ_STATE, file[1]);
-    else
-        seq_restart(chart, chart_length, state, SEQ_STATE);
-    return nothing;
+static void remove_one(void) {
+    find_loop();
+    seq_remove(chart.bytes, chart.len, labels.bytes, labels.len, loop[0], loop[1], standing, labels.len);
 }
 
-/* The file has the state, the bytes that are lent, then the chart. */
-static void *way(void *nothing) {
-    unsigned char *out = file + SEQ_STATE;
-    unsigned char *chart = out + LONGEST_WAY;
-    size_t chart_length = length - SEQ_STATE - LONGEST_WAY;
-    seq_shortest_way(chart, chart_length, file, SEQ_STATE, out, LONGEST_WAY);
-    return nothing;
+static void remove_together(void) {
+    find_loop();
+    seq_remove_together(chart.bytes, chart.len, labels.bytes, labels.len, loop, 2, standing, labels.len);
+}
+
+static uint8_t state[SEQ_STATE];
+
+static void restart(void) {
+    seq_restart(chart.bytes, chart.len, state, sizeof state);
+}
+
+static void event(void) {
+    restart();
+    for (size_t at = 4; at + 4 <= chart.len; at += 4)
+        if (chart.bytes[at] == chart.bytes[1]) {
+            seq_event(chart.bytes, chart.len, state, sizeof state, chart.bytes[at + 1]);
+            break;
+        }
+}
+
+static void shortest_way(void) {
+    static uint8_t out[SEQ_LONGEST_WAY];
+    restart();
+    seq_shortest_way(chart.bytes, chart.len, state, sizeof state, out, sizeof out);
+}
+
+typedef struct measured {
+    const char *name;
+    void (*call)(void);
+    size_t said;
+    size_t most;
+} measured;
+
+static measured calls[] = {
+    {"seq_check", check, SEQ_STACK_CHECK, 0},
+    {"seq_write_chart", write_chart, SEQ_STACK_WRITE_CHART, 0},
+    {"seq_remove", remove_one, SEQ_STACK_REMOVE, 0},
+    {"seq_remove_together", remove_together, SEQ_STACK_REMOVE_TOGETHER, 0},
+    {"seq_restart", restart, SEQ_STACK_RESTART, 0},
+    {"seq_event", event, SEQ_STACK_EVENT, 0},
+    {"seq_shortest_way", shortest_way, SEQ_STACK_SHORTEST_WAY, 0},
+};
+enum { CALLS = sizeof calls / sizeof calls[0] };
+
+static uint8_t *stack;
+
+/* The stack grows down from here. OWN bytes are kept for this function's own. */
+static void *measure(void *given) {
+    measured *row = given;
+    uint8_t *here = __builtin_frame_address(0);
+    row->call();
+    for (volatile uint8_t *at = stack; at < here - OWN; at++)
+        *at = PATTERN;
+    row->call();
+    uint8_t *lowest = stack;
+    while (lowest < here && *lowest == PATTERN)
+        lowest++;
+    if ((size_t)(here - lowest) > row->most)
+        row->most = (size_t)(here - lowest);
+    return NULL;
+}
+
+static void measure_on_a_thread(measured *row) {
+    pthread_attr_t attributes;
+    pthread_t thread;
+    if (pthread_attr_init(&attributes) || pthread_attr_setstack(&attributes, stack, ROOM)
+        || pthread_create(&thread, &attributes, measure, row) || pthread_join(thread, NULL)) {
+        fprintf(stderr, "stack: no thread\n");
+        exit(2);
+    }
+    pthread_attr_destroy(&attributes);
+}
+
+static void read_file(const char *name) {
+    FILE *in = fopen(name, "rb");
+    if (!in) {
+        perror(name);
+        exit(2);
+    }
+    length = fread(file, 1, sizeof file, in);
+    fclose(in);
+    chart = seq_body(file, length, SEQ_CHART);
+    labels = seq_body(file, length, SEQ_LABELLING);
 }
 
 int main(int count, char **names) {
-    if (count < 3) {
-        fprintf(stderr, "stack check|removal|together|follower|way FILE..\n");
+    stack = aligned_alloc(4096, ROOM);
+    if (count < 2 || !stack) {
+        fprintf(stderr, "usage: stack FILE..\n");
         return 2;
     }
-    void *(*call)(void *) = check;
-    if (strcmp(names[1], "removal") == 0)
-        call = removal;
-    else if (strcmp(names[1], "together") == 0)
-        call = together;
-    else if (strcmp(names[1], "follower") == 0)
-        call = follower;
-    else if (strcmp(names[1], "way") == 0)
-        call = way;
-    size_t most = 0;
-    for (int i = 2; i < count; i++) {
-        FILE *in = fopen(names[i], "rb");
-        unsigned char *stack = aligned_alloc(4096, ROOM);
-        pthread_attr_t attributes;
-        pthread_t thread;
-        if (!in || !stack) {
-            perror(names[i]);
-            return 1;
-        }
-        length = fread(file, 1, LONGEST, in);
-        fclose(in);
-        memset(stack, PATTERN, ROOM);
-        if (pthread_attr_init(&attributes) || pthread_attr_setstack(&attributes, stack, ROOM)
-            || pthread_create(&thread, &attributes, call, NULL) || pthread_join(thread, NULL)) {
-            fprintf(stderr, "%s: no thread\n", names[i]);
-            return 1;
-        }
-        size_t untouched = 0;
-        while (untouched < ROOM && stack[untouched] == PATTERN)
-            untouched++;
-        if (ROOM - untouched > most)
-            most = ROOM - untouched;
-        pthread_attr_destroy(&attributes);
-        free(stack);
+    for (int i = 1; i < count; i++) {
+        read_file(names[i]);
+        for (int k = 0; k < CALLS; k++)
+            measure_on_a_thread(&calls[k]);
     }
-    printf("%s: at most %zu bytes of stack, the thread's own among them\n", names[1], most);
-    return 0;
+    int more = 0;
+    printf("| call | bytes of stack | sequence.h has |\n|---|---|---|\n");
+    for (int k = 0; k < CALLS; k++) {
+        printf("| %s | %zu | %zu |\n", calls[k].name, calls[k].most, calls[k].said);
+        more |= calls[k].most > calls[k].said;
+    }
+    free(stack);
+    return more;
 }

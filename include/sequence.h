@@ -4,8 +4,7 @@
  * slice. The slices of one call must not overlap. Whatever the bytes are, a call answers; it keeps no
  * pointer and no state, allocates nothing, and needs memcpy and memset. So calls are reentrant, and any
  * threads may make them at once: they may read the same bytes, and what one of them writes must not be lent
- * to another meanwhile. seq_check and seq_write_chart need less than 128 KiB of stack, the others less than
- * 32 KiB. */
+ * to another meanwhile. */
 #ifndef SEQUENCE_H
 #define SEQUENCE_H
 
@@ -83,6 +82,16 @@ typedef enum seq_refusal {
 
 /* The longest list of events that seq_shortest_way writes. */
 #define SEQ_LONGEST_WAY 127
+
+/* The stack that each call needs, in bytes, as bench/stack.c measures it on x86-64 (tests/c/run builds and runs
+ * it), rounded up to a KiB. The caller's own come on top. */
+#define SEQ_STACK_CHECK 34816
+#define SEQ_STACK_WRITE_CHART 8192
+#define SEQ_STACK_REMOVE 5120
+#define SEQ_STACK_REMOVE_TOGETHER 5120
+#define SEQ_STACK_RESTART 2048
+#define SEQ_STACK_EVENT 3072
+#define SEQ_STACK_SHORTEST_WAY 7168
 
 /* A yard file is four records of the kinds 1 to 4, in this order, and nothing after them. A record is the
  * length of its body in two bytes, its kind in two, and the body; of two bytes the low one comes first.
