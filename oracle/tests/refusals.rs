@@ -234,6 +234,43 @@ fn each_number_has_an_example() {
     );
 }
 
+/// The enum of the refusals in include/sequence.h has a name for each number of the page.
+#[test]
+fn each_number_has_a_name_in_the_header() {
+    let header = String::from_utf8(of_the_repository("include/sequence.h")).expect("a text");
+    let (_, names) = header.split_once("typedef enum seq_refusal {").unwrap();
+    let (names, _) = names.split_once("} seq_refusal;").unwrap();
+    let number = |line: &str| {
+        let (_, number) = line.split_once(" = ")?;
+        Some(decimal(number.trim_end_matches(',')) as u64)
+    };
+    let named: Vec<u64> = names.lines().filter_map(number).collect();
+    let mut numbers: Vec<u64> = examples().iter().map(|example| example.number).collect();
+    numbers.dedup();
+    assert_eq!(named, numbers);
+}
+
+/// 3 for a record, and for a file that is none.
+#[test]
+fn each_cause_of_3_has_an_example() {
+    let line = |first: &'static str| examples_of(3).any(|e| e.line.starts_with(first));
+    assert!(line("refused 3 1 ") && line("refused 3 2 "));
+}
+
+/// 34 for a way out of the loop's own vertex, and for one from inside, with the loop that passes there.
+#[test]
+fn a_loop_that_begins_elsewhere_passes() {
+    let inside = examples_of(34).nth(1).expect("a second example");
+    let mut file = of_the_repository(FILE);
+    for line in &inside.changes {
+        change(&mut file, line);
+    }
+    assert_eq!(proved::check(&file).to_string(), inside.line);
+    change(&mut file, "byte 126: 00");
+    change(&mut file, "byte 120: 02 02");
+    assert_eq!(proved::check(&file).n, 0);
+}
+
 /// 50 for the number of bytes and for a byte, 52 with each r.
 #[test]
 fn each_cause_of_50_and_52_has_an_example() {
