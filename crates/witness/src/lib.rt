@@ -26,6 +26,18 @@ ghost use Rattle.chart.specs.Steps.{StepsOf};
 ghost use Rattle.witness.specs.Given.{Given, Room};
 ghost use Rattle.witness.specs.Labellings.{labelledOf};
 
+// A stage's refusal as the labelling's.
+fn refusal(stage: Stage) -> Labelled
+    requires { ⌜ ((p : Place) × (stage ≡ Stage.Refused p)) ⌝ }
+    ensures { λ r. ⌜ ((p : Place) → stage ≡ Stage.Refused p → r ≡ Labelled.Refused p) ⌝ }
+{
+    match stage {
+        Stage::Refused(place) => Labelled::Refused(place),
+        // `requires` rules it out
+        Stage::Passed => Labelled::Passed(0),
+    }
+}
+
 // 31 to 35, and the number of loops, where 30 passes, by the tables of the transitions.
 fn check_by(
     body: &[u8],
@@ -57,10 +69,11 @@ fn check_by(
     let mut low = [0u8; 128];
     lowest_levels(high, top, &mut low);
     join_later(high, top);
-    match loops_check(body, labels, begins, branches, next, entries, &low, high) {
-        Stage::Refused(place) => Labelled::Refused(place),
-        Stage::Passed => Labelled::Passed(loops),
-    }
+    let stage = loops_check(body, labels, begins, branches, next, entries, &low, high);
+    let Stage::Passed = stage else {
+        return refusal(stage);
+    };
+    Labelled::Passed(loops)
 }
 
 // The same with tables for 16 vertices and the levels below 16: to clear large ones is much of a small file's work.

@@ -153,11 +153,14 @@ loops-check-requires c κs =
       },
     )
 
-enum-known-place : tie.Need-enum-known-place
-enum-known-place c = search needs
-
 enum-told : tie.Need-enum-told
 enum-told c = search needs
+
+enum-told-2 : tie.Need-enum-told-2
+enum-told-2 c = search needs
+
+refusal-requires : tie.Need-refusal-requires
+refusal-requires c κs = search needs
 
 same-length-3 : tie.Need-same-length-3
 same-length-3 c = search needs
@@ -167,14 +170,16 @@ same-length-4 c = search needs
 
 returns-3 : tie.Need-returns-3
 returns-3 c =
-    let l = c .before .before .before in
+    let t = c .before in
+    let h = t .enum-told2 .given .1 in
+    let l = t .before .before in
     let none = l .before .before .before .before .before .before .before .before .before .before .before .before .before in
     let k = none .before .before .before in
     let u = searched k in
     let r = begun u in
-    answer-refused _ _ (formed r) (bytes r) (given r .long) (unreached u) (all-reached k) (on-cycle k)
-    (omega (arith, r .byte .ensures .0, none .if2 .left))
-    (subst (LoopsSaid _) (c .before .place .given .1) (l .loops-check .ensures))
+    c .refusal .ensures _ h
+    ∙ answer-refused _ _ (formed r) (bytes r) (given r .long) (unreached u) (all-reached k) (on-cycle k)
+    (omega (arith, r .byte .ensures .0, none .if2 .left)) (subst (LoopsSaid _) h (l .loops-check .ensures))
 
 same-length-5 : tie.Need-same-length-5
 same-length-5 c = search needs
@@ -210,8 +215,9 @@ check-by-spec =
     lowest-levels-requires
     join-later-requires
     loops-check-requires
-    enum-known-place
     enum-told
+    enum-told-2
+    refusal-requires
     same-length-3
     same-length-4
     returns-3
