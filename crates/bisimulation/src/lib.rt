@@ -16,6 +16,7 @@ use pairs::search;
 use report::Place;
 use report::Stage;
 use rows::read_row;
+use rows::related;
 use runs::runs;
 use small::small_passes;
 use suspects::fill_tables;
@@ -77,7 +78,7 @@ pub fn opening(vertices: usize, start: usize, body: &[u8], relation: &[u8]) -> S
         return strays(body, relation, vertices);
     }
     let q = byte(body, 1);
-    if !read_row(relation, start).contains(q) {
+    if !related(relation, start, q) {
         return Stage::Refused(Place::PairStarts(start, q));
     }
     Stage::Passed

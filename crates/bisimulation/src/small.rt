@@ -1,5 +1,6 @@
 // Small charts: 43 to 45 of each pair straight by the keys of the steps, which is sooner done than tables are cleared.
 use super::rows::read_row;
+use super::rows::related;
 use bits::bit_and_not;
 use bits::bit_or;
 use bits::byte;
@@ -29,13 +30,16 @@ fn with_fitting(
     action: usize,
     w: usize,
 ) -> u64
-    requires { ⌜ (k < length (now keys)) × (k < 64) × (16 * rowAt (now keys) k + 16 ≤ length (now relation)) ⌝ }
+    requires { ⌜ (k < length (now keys))
+        × (k < 64)
+        × (16 * rowAt (now keys) k + 16 ≤ length (now relation))
+        × (w < 128) ⌝ }
     ensures { λ r. ⌜ ((j : ℕ) → On r j → On found j
         ⊎ ((j ≡ k) × (getD (now (keys .entry)) k 0 / 256 ≡ action)
         × Related (now (relation .entry)) (rowAt (now (keys .entry)) k) w)) ⌝ }
 {
     let key = keys[k];
-    let fits = (key / 256 == action) & read_row(relation, key % 256).contains(w);
+    let fits = (key / 256 == action) & related(relation, key % 256, w);
     if fits {
         return with_bit(found, k);
     }

@@ -190,6 +190,14 @@ meet x y r l R = go (eqb r 0) refl
         nothing k z on = let f : r / 2 ^ k ≡ 0 = rw z (zero-div (2 ^ k)) in let g : digit r k ≡ 0 = rw f in omega (arith, g, on)
     go false e = ((λ f. let L = lowest-law r (λ z. false≢true (sym e ∙ eq-eqb r 0 z)) (omega (arith, l, subset-le r x (λ k on. R k .0 on .0))) in let z = R _ .0 (L .on) in (_, z .0, z .1)), (λ h. refl))
 
+-- a word and a power of two have only its bit in common
+pub at-power : (x k : ℕ) → x < 2 ^ 64 → (not (eqb (bitAnd x (2 ^ k)) 0) ≡ true) ↔ On x k
+at-power x k l =
+    let M = meet x (2 ^ k) (bitAnd x (2 ^ k)) l (both-on x (2 ^ k)) in (
+      (λ h. let (j, p, q) = M .0 h in subst (λ (i : ℕ). On x i) (pow-on k j q) p),
+      (λ on. M .1 (k, on, on-pow k)),
+    )
+
 -- where k is the lowest bit of x, one less than x has the bits of x above k, and not k
 lowered : (k x i : ℕ) → On x k → ((j : ℕ) → j < k → ¬ On x j) → (On x i × On (x - 1) i) ↔ (On x i × (i ≢ k))
 lowered zero x i on f = odd i (digit-zero x) on

@@ -10,7 +10,7 @@ pub use sets::set_bytes;
 ghost use mathlib.Core.Path.{_≡_};
 ghost use mathlib.Core.Bool.{true};
 ghost use mathlib.Core.Logic.{_≢_, _⊎_, _↔_};
-ghost use Prim.Native.Nat.{ℕ, max, _+_, _*_, _≤_, _<_, _^_};
+ghost use Prim.Native.Nat.{ℕ, max, _+_, _*_, _/_, _%_, _≤_, _<_, _^_};
 ghost use lib.ListN.{length, getD};
 ghost use Rattle.bits.specs.Bits.{HighestByte};
 ghost use Rattle.bits.specs.Words.{On, LowestOn, HighestOn, With, Without};
@@ -102,6 +102,14 @@ pub fn with_value(byte: u8, i: usize) -> u8
     ensures { λ r. ⌜ With byte i r ⌝ }
 {
     byte | (value(i) as u8)
+}
+
+// Whether v is in the set whose bytes stand from `at` on.
+pub fn has_bit(s: &[u8], at: usize, v: usize) -> bool
+    requires { ⌜ at + v / 8 < length (now s) ⌝ }
+    ensures { λ r. ⌜ (r ≡ true) ↔ On (getD (now (s .entry)) (at + v / 8) 0) (v % 8) ⌝ }
+{
+    byte(s, at + v / 8) & value(v % 8) != 0
 }
 
 // The lowest bit of a word that is set.

@@ -4,7 +4,6 @@ use borrow.Author.Tests.{not-true, not-false}
 use native.Mathlib.Omega.{arith}
 use Rattle.chart.proofs.Checks.{well-formed}
 use Rattle.bisimulation.proofs.Openings.{opening-40, opening-41, opening-42, opening-passed}
-use Rattle.bisimulation.proofs.RowLaws.{has-related}
 use borrow.Author.Needs.{needs}
 use Rattle.bisimulation.proofs.opening.Statement.{statement}
 use Rattle.bisimulation.proofs.opening.Tie as tie
@@ -30,27 +29,27 @@ returns-2 c =
 byte-requires : tie.Need-byte-requires
 byte-requires c κs = let l = well-formed _ (c .before .before .before .before .before .pre .0) .header .long in omega arith
 
-read-row-requires : tie.Need-read-row-requires
-read-row-requires c κs = search needs
-
-contains-requires : tie.Need-contains-requires
-contains-requires c κs = search needs
+related-requires : tie.Need-related-requires
+related-requires c κs =
+    let d = c .before .before .before .before .before .before in
+    let H = well-formed _ (d .pre .0) .header in (
+      omega (arith, d .pre .2, c .before .before .before .if1 .left),
+      omega (arith, H .vertices-high, H .start-high, c .byte .ensures .0),
+    )
 
 returns-3 : tie.Need-returns-3
 returns-3 c =
-    let d = c .before .before .before in
-    let M = c .before .before .read-row .ensures in
+    let d = c .before .before in
     opening-42 _ _ _ _ (d .before .before .before .if1 .left)
     (d .before .before .all-inside .ensures .0 (not-false _ (d .before .if2 .left))) (d .byte .ensures .0)
-    (λ r. false≢true (sym (not-true _ (c .if3 .taken)) ∙ c .before .contains .ensures .1 (has-related _ _ M _ .1 r)))
+    (λ r. false≢true (sym (not-true _ (c .if3 .taken)) ∙ c .before .related .ensures .1 r))
 
 returns-4 : tie.Need-returns-4
 returns-4 c =
-    let d = c .before .before .before in
-    let M = c .before .before .read-row .ensures in
+    let d = c .before .before in
     opening-passed _ _ _ _ (d .before .before .before .if1 .left)
     (d .before .before .all-inside .ensures .0 (not-false _ (d .before .if2 .left))) (d .byte .ensures .0)
-    (has-related _ _ M _ .0 (c .before .contains .ensures .0 (not-false _ (c .if3 .left))))
+    (c .before .related .ensures .0 (not-false _ (c .if3 .left)))
 
 pub opening-spec : {M : Type 1} → statement M
 opening-spec =
@@ -62,7 +61,6 @@ opening-spec =
     strays-requires
     returns-2
     byte-requires
-    read-row-requires
-    contains-requires
+    related-requires
     returns-3
     returns-4)

@@ -1,5 +1,6 @@
 use mathlib.Core.Path.{_≡_}
-use Prim.Native.Nat.{ℕ}
+use Prim.Native.Nat.{ℕ, _<_}
+use native.Mathlib.Omega.{arith}
 use Rattle.bits.specs.Words.{On}
 use Rattle.chart.specs.Bodies.{actionOf, toOf}
 use Rattle.bisimulation.specs.Small.{HaveRows}
@@ -10,7 +11,7 @@ use Rattle.bisimulation.proofs.small.fitting.Tie as tie
 
 abbrev Inv-loop : tie.InvT-loop
 Inv-loop keys relation word body i p action w found₀ left₀ found left =
-    HaveRows keys relation word × (action ≡ actionOf body i) × (w ≡ toOf body i) × ((k : ℕ) → On left k → On word k)
+    HaveRows keys relation word × (action ≡ actionOf body i) × (w ≡ toOf body i) × (w < 128) × ((k : ℕ) → On left k → On word k)
     × Fitting keys relation body i found
 
 abbrev μ-loop : tie.MeasureT-loop
@@ -37,7 +38,14 @@ byte-requires-2 c κs = search needs
 loop-holds : tie.Need-loop-holds Inv-loop μ-loop
 loop-holds c =
     let p = c .before .before .before .before .pre in
-    (p .0, c .before .byte .ensures .0, c .byte2 .ensures .0, λ k on. on, fitting-none)
+    let t = c .byte2 .ensures .0 in (
+      p .0,
+      c .before .byte .ensures .0,
+      t,
+      omega (arith, t, p .1 .each _ (p .2) .to-high, p .1 .header .vertices-high),
+      λ k on. on,
+      fitting-none,
+    )
 
 lowest-bit-requires : tie.Need-lowest-bit-requires Inv-loop μ-loop
 lowest-bit-requires c κs = search needs
@@ -46,8 +54,8 @@ with-fitting-requires : tie.Need-with-fitting-requires Inv-loop μ-loop
 with-fitting-requires c κs =
     let i = c .before .before .loop .inv in
     let L = c .lowest-bit .ensures in
-    let h = i .0 _ (i .3 _ (L .on)) in
-    (h .0, L .within, h .1)
+    let h = i .0 _ (i .4 _ (L .on)) in
+    (h .0, L .within, h .1, i .3)
 
 without-lowest-requires : tie.Need-without-lowest-requires Inv-loop μ-loop
 without-lowest-requires c κs = c .before .before .loop-test .taken
@@ -64,13 +72,14 @@ loop-again c =
       i .0,
       i .1,
       i .2,
-      λ k on. i .3 k (W .exactly k .0 on .0),
-      fitting-more (d .lowest-bit .result) (c .before .with-fitting .result) (i .4) (i .1) (i .2)
+      i .3,
+      λ k on. i .4 k (W .exactly k .0 on .0),
+      fitting-more (d .lowest-bit .result) (c .before .with-fitting .result) (i .5) (i .1) (i .2)
           (c .before .with-fitting .ensures),
     )
 
 returns : tie.Need-returns Inv-loop μ-loop
-returns c = c .before .loop .inv .4 .each
+returns c = c .before .loop .inv .5 .each
 
 pub fitting-spec : {M : Type 1} → statement M
 fitting-spec =

@@ -1,6 +1,5 @@
 use mathlib.Core.Logic.{inl, inr, ⊎-elim}
 use Rattle.theory.proofs.Tests.{decides-and, decides-eqb}
-use Rattle.bisimulation.proofs.RowLaws.{has-related}
 use borrow.Author.Needs.{needs}
 use Rattle.bisimulation.proofs.small.with_fitting.Statement.{statement}
 use Rattle.bisimulation.proofs.small.with_fitting.Tie as tie
@@ -11,20 +10,15 @@ mul-key c = search needs
 element-copy-out-key : tie.Need-element-copy-out-key
 element-copy-out-key c = search needs
 
-read-row-requires : tie.Need-read-row-requires
-read-row-requires c κs = search needs
-
-contains-requires : tie.Need-contains-requires
-contains-requires c κs = search needs
+related-requires : tie.Need-related-requires
+related-requires c κs = search needs
 
 with-bit-requires : tie.Need-with-bit-requires
 with-bit-requires c κs = search needs
 
 returns : tie.Need-returns
 returns c =
-    let d = c .before .before in
-    let (e, h) = decides-and (decides-eqb _ _) (d .contains .ensures) .0 (c .before .if1 .taken) in
-    let r = has-related _ _ (d .before .read-row .ensures) _ .0 h in
+    let (e, r) = decides-and (decides-eqb _ _) (c .before .before .related .ensures) .0 (c .before .if1 .taken) in
     λ j on. ⊎-elim inl (λ f. inr (f, e, r)) (c .with-bit .ensures .exactly j .0 on)
 
 returns-2 : tie.Need-returns-2
@@ -36,8 +30,7 @@ with-fitting-spec =
     (tie.spec
     mul-key
     element-copy-out-key
-    read-row-requires
-    contains-requires
+    related-requires
     with-bit-requires
     returns
     returns-2)
