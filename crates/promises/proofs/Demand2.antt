@@ -1,11 +1,14 @@
 -- Demand 2, proved.
 use mathlib.Core.Path.{_≡_, sym, _∙_, subst}
+use mathlib.Core.Logic.{_↔_}
 use mathlib.Core.List.{List, List·Memᴰ}
 use Prim.Native.Nat.{ℕ, suc, _-_, _<_}
 use native.Mathlib.Omega.{arith}
 use Rattle.theory.specs.Expressions.{Step}
 use Rattle.theory.specs.Nodes.{residual}
+use Rattle.theory.specs.Climbs.{LeadsBy}
 use Rattle.theory.proofs.ExpressionCharts.{residual-of-start}
+use Rattle.theory.proofs.Climbs.{chart-leads}
 use Rattle.report.specs.declared.Stage.the-variants as stage
 use Rattle.bits.specs.Bits.{Bytes}
 use Rattle.chart.specs.Checks as chart
@@ -25,11 +28,19 @@ module _ (s : List ℕ) (passed : nodes.checkOf s ≡ stage.Passed) where
   vertex-of : (u a t : ℕ) → List·Memᴰ (u, a, t) (chartOf s) → (k : ℕ) × (k < nodes.count s) × (u ≡ suc k)
   vertex-of u a t m = let b = chart-of .fits (u, a, t) m in (u - 1, omega arith, omega arith)
 
+  leads : (k a t : ℕ) → List·Memᴰ (suc k, a, t) (chartOf s) ↔ ((k < nodes.count s) × LeadsBy (nodes.node s) (nodes.count s) k a t)
+  unfolding chartOf
+  leads = chart-leads (nodes.node s) (nodes.count s) (tree s (passed→well-formed s passed))
+
   pub exact-steps : ExactSteps s (bodyOf s)
   exact-steps = record {
     derived = λ k h a ξ. (
       (λ d. let (t, m, e) = chart-of .all k h d in (t, rw body-transitions m, e)),
       (λ (t, m, e). subst (Step (residual (nodes.node s) (nodes.count s) k) a) e (chart-of .steps k a t (rw body-transitions at m) .1)),
+    );
+    climbs = λ k h a t. (
+      (λ l. rw body-transitions (leads k a t .1 (h, l))),
+      (λ m. leads k a t .0 (rw body-transitions at m) .1),
     );
     vertices = λ u a t m. vertex-of u a t (rw body-transitions at m);
     targets = λ u a t m.

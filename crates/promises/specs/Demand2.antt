@@ -9,6 +9,7 @@ use lib.ListN.{length, drop}
 use Rattle.theory.specs.Ascending.{Ascending}
 use Rattle.theory.specs.Expressions.{Expr, Target, Step}
 use Rattle.theory.specs.Nodes.{expr, residual, meaning}
+use Rattle.theory.specs.Climbs.{LeadsBy}
 use Rattle.theory.specs.Systems.{System, Bisimulation}
 use Rattle.theory.specs.Transitions as transitions
 use Rattle.theory.specs.Transitions.{precedes}
@@ -39,11 +40,14 @@ HasTransition body u a t = List·Memᴰ (u, a, t) (transitionsOf body)
 abbrev pub LeadsTo : (s body : List ℕ) (u a : ℕ) → Target → Type 0
 LeadsTo s body u a ξ = (t : ℕ) × HasTransition body u a t × (meaningOf s t ≡ ξ)
 
--- from the vertex of node k exactly the steps of its residual, from no other vertex any; the vertices, and all targets,
--- are the end and one for each node; no transition is listed twice; and the start stands for the whole expression
+-- from the vertex of node k exactly the steps of its residual, each to the vertex where the climb from its leaf ends, so
+-- that two occurrences stay two; from no other vertex any; the vertices, and all targets, are the end and one for each
+-- node; no transition is listed twice; and the start stands for the whole expression
 pub record ExactSteps (s body : List ℕ) : Type 0 where
   pub derived : (k : ℕ) → k < nodes.count s
       → (a : ℕ) (ξ : Target) → Step (residualOf s k) a ξ ↔ LeadsTo s body (suc k) a ξ
+  pub climbs : (k : ℕ) → k < nodes.count s
+      → (a t : ℕ) → LeadsBy (nodes.node s) (nodes.count s) k a t ↔ HasTransition body (suc k) a t
   pub vertices : (u a t : ℕ) → HasTransition body u a t → (k : ℕ) × (k < nodes.count s) × (u ≡ suc k)
   pub targets : (u a t : ℕ) → HasTransition body u a t → t < verticesOf body
   pub size : verticesOf body ≡ suc (nodes.count s)

@@ -23,6 +23,7 @@ pub mod Derivatives
 pub mod Down
 pub mod Up
 pub mod ExpressionCharts
+pub mod Climbs
 pub mod Counts
 pub mod Bounds
 pub mod Rules

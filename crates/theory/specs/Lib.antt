@@ -19,6 +19,7 @@ pub mod Ascending
 pub mod Transitions
 pub mod Nodes
 pub mod ExpressionCharts
+pub mod Climbs
 -- relations and followers
 pub mod Relations
 pub mod Followers
