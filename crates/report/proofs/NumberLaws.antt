@@ -2,16 +2,16 @@
 -- nothing.
 use mathlib.Core.Path.{_≡_, refl, sym, _∙_, ap}
 use mathlib.Core.Logic.{_≢_, _⊎_, inl, inr, ⊎-elim}
-use mathlib.Core.Bool.{Bool, true, false, cond}
+use mathlib.Core.Bool.{Bool, true, false, cond, _&&_, _||_, true≢false}
 use Prim.Native.Nat.{ℕ, _<_, _≤_}
 use native.Mathlib.Omega.{arith}
-use lib.Dec.{eqb}
+use lib.Dec.{eqb, ltb}
 use borrow.Author.Tests.{ne-eqb}
 use Rattle.report.specs.Numbers.{placeNumbers, verdictNumbers, writtenNumbers, removedNumbers, togetherNumbers, flag}
 use Rattle.report.specs.Numbers.{followedNumbers, wayNumbers}
 use Rattle.report.specs.declared.Numbers.{Numbers}
 use Rattle.report.specs.declared.Place.{Place}
-use Rattle.report.specs.declared.Place.the-variants.{File, Record, RecordKind, FileOffset, NodesLength, Node, NodeUses, ChartHeader, Transition, LabelsLength, Unreached, BranchCycle, LoopNoReturn, LoopEndInside, LoopNotLower, RelationLength, PairNoVertex, PairStarts, PairEnds, PairExpressionStep, PairChartStep, OutputLength}
+use Rattle.report.specs.declared.Place.the-variants.{File, Record, RecordKind, FileOffset, NodesLength, Node, NodeUses, ChartHeader, Transition, LabelsLength, Unreached, BranchCycle, LoopNoReturn, LoopEndInside, LoopNotLower, RelationLength, PairNoVertex, PairStarts, PairEnds, PairExpressionStep, PairChartStep, FollowerSet, OutputLength}
 use Rattle.report.specs.declared.Verdict.{Verdict}
 use Rattle.report.specs.declared.Verdict.the-variants as verdict
 use Rattle.report.specs.declared.Written.{Written}
@@ -49,7 +49,8 @@ placeAt k =
     (cond (eqb (k .n) 43) (PairEnds (k .p) (k .q))
     (cond (eqb (k .n) 44) (PairExpressionStep (k .p) (k .q) (k .r))
     (cond (eqb (k .n) 45) (PairChartStep (k .p) (k .q) (k .r))
-    (OutputLength (k .p))))))))))))))))))))))
+    (cond (eqb (k .n) 53) FollowerSet
+    (OutputLength (k .p)))))))))))))))))))))))
 
 place-at : (x : Place) → placeAt (placeNumbers x) ≡ x
 unfolding placeAt
@@ -74,39 +75,46 @@ place-at (PairStarts p q) = refl
 place-at (PairEnds p q) = refl
 place-at (PairExpressionStep p q r) = refl
 place-at (PairChartStep p q r) = refl
+place-at FollowerSet = refl
 place-at (OutputLength p) = refl
 
--- the numbers of these refusals: each is below 50, or 54
-range : (x : Place) → (0 < placeNumbers x .n) × ((placeNumbers x .n < 50) ⊎ (placeNumbers x .n ≡ 54))
-range File = (omega arith, inl (omega arith))
-range (Record p) = (omega arith, inl (omega arith))
-range (RecordKind p q) = (omega arith, inl (omega arith))
-range (FileOffset p) = (omega arith, inl (omega arith))
-range (NodesLength p) = (omega arith, inl (omega arith))
-range (Node p) = (omega arith, inl (omega arith))
-range (NodeUses p q) = (omega arith, inl (omega arith))
-range ChartHeader = (omega arith, inl (omega arith))
-range (Transition p) = (omega arith, inl (omega arith))
-range (LabelsLength p) = (omega arith, inl (omega arith))
-range (Unreached p) = (omega arith, inl (omega arith))
-range (BranchCycle p) = (omega arith, inl (omega arith))
-range (LoopNoReturn p q) = (omega arith, inl (omega arith))
-range (LoopEndInside p q) = (omega arith, inl (omega arith))
-range (LoopNotLower p q r) = (omega arith, inl (omega arith))
-range (RelationLength p) = (omega arith, inl (omega arith))
-range (PairNoVertex p q) = (omega arith, inl (omega arith))
-range (PairStarts p q) = (omega arith, inl (omega arith))
-range (PairEnds p q) = (omega arith, inl (omega arith))
-range (PairExpressionStep p q r) = (omega arith, inl (omega arith))
-range (PairChartStep p q r) = (omega arith, inl (omega arith))
-range (OutputLength p) = (omega arith, inr refl)
+-- the numbers of these refusals
+placed : ℕ → Bool
+placed n = ltb 0 n && (ltb n 50 || (eqb n 53 || eqb n 54))
+
+is-placed : (x : Place) → placed (placeNumbers x .n) ≡ true
+unfolding placed
+is-placed File = refl
+is-placed (Record p) = refl
+is-placed (RecordKind p q) = refl
+is-placed (FileOffset p) = refl
+is-placed (NodesLength p) = refl
+is-placed (Node p) = refl
+is-placed (NodeUses p q) = refl
+is-placed ChartHeader = refl
+is-placed (Transition p) = refl
+is-placed (LabelsLength p) = refl
+is-placed (Unreached p) = refl
+is-placed (BranchCycle p) = refl
+is-placed (LoopNoReturn p q) = refl
+is-placed (LoopEndInside p q) = refl
+is-placed (LoopNotLower p q r) = refl
+is-placed (RelationLength p) = refl
+is-placed (PairNoVertex p q) = refl
+is-placed (PairStarts p q) = refl
+is-placed (PairEnds p q) = refl
+is-placed (PairExpressionStep p q r) = refl
+is-placed (PairChartStep p q r) = refl
+is-placed FollowerSet = refl
+is-placed (OutputLength p) = refl
+
+-- another number is none of theirs
+not-place : (x : Place) (n : ℕ) → placed n ≡ false → placeNumbers x .n ≢ n
+not-place x n h e = true≢false (sym (is-placed x) ∙ ap placed e ∙ h)
 
 numbered : (x : Place) → 0 < placeNumbers x .n
-numbered x = range x .0
-
--- a number of 50 or above is another's, but for 54
-not-place : (x : Place) (n : ℕ) → 50 ≤ n → n ≢ 54 → placeNumbers x .n ≢ n
-not-place x n h other e = ⊎-elim (λ l. omega (arith, l, e, h)) (λ l. other (sym e ∙ l)) (range x .1)
+unfolding placed
+numbered x = let h = not-place x 0 refl in omega (arith, h)
 
 -- NO TWO REFUSALS HAVE THE SAME FOUR NUMBERS
 pub one-refusal : (x y : Place) → placeNumbers x ≡ placeNumbers y → x ≡ y
@@ -140,14 +148,14 @@ removedAt k =
     (removed.Refused (placeAt k)))))
 
 removed-at : (x : Removed) → removedAt (removedNumbers x) ≡ x
-unfolding removedAt
+unfolding removedAt placed
 removed-at removed.Done = refl
 removed-at (removed.Refused place) =
     rw (
       ne-eqb (placeNumbers place .n) 0 (λ e. omega (arith, e, numbered place)),
-      ne-eqb (placeNumbers place .n) 50 (not-place place 50 (omega arith) (omega arith)),
-      ne-eqb (placeNumbers place .n) 51 (not-place place 51 (omega arith) (omega arith)),
-      ne-eqb (placeNumbers place .n) 52 (not-place place 52 (omega arith) (omega arith)),
+      ne-eqb (placeNumbers place .n) 50 (not-place place 50 refl),
+      ne-eqb (placeNumbers place .n) 51 (not-place place 51 refl),
+      ne-eqb (placeNumbers place .n) 52 (not-place place 52 refl),
     ) (ap removed.Refused (place-at place))
 removed-at removed.StandingBytes = refl
 removed-at (removed.NoEntry v l) = refl
@@ -156,10 +164,10 @@ removed-at (removed.NotLoop v l r) = refl
 pub one-removed : (x y : Removed) → removedNumbers x ≡ removedNumbers y → x ≡ y
 one-removed x y e = sym (removed-at x) ∙ ap removedAt e ∙ removed-at y
 
--- a number above 52 is no removal's, but for 54
-not-removed : (x : Removed) (n : ℕ) → 52 < n → n ≢ 54 → removedNumbers x .n ≢ n
+-- nor a removal's, above 52
+not-removed : (x : Removed) (n : ℕ) → 52 < n → placed n ≡ false → removedNumbers x .n ≢ n
 not-removed removed.Done n h other e = omega (arith, h, e)
-not-removed (removed.Refused place) n h other e = not-place place n (omega (arith, h)) other e
+not-removed (removed.Refused place) n h other e = not-place place n other e
 not-removed removed.StandingBytes n h other e = omega (arith, h, e)
 not-removed (removed.NoEntry v l) n h other e = omega (arith, h, e)
 not-removed (removed.NotLoop v l r) n h other e = omega (arith, h, e)
@@ -172,11 +180,11 @@ togetherAt k =
     (together.Removal (removedAt k)))
 
 together-at : (x : Together) → togetherAt (togetherNumbers x) ≡ x
-unfolding togetherAt
+unfolding togetherAt placed
 together-at (together.Removal x) =
     rw (
-      ne-eqb (removedNumbers x .n) 56 (not-removed x 56 (omega arith) (omega arith)),
-      ne-eqb (removedNumbers x .n) 57 (not-removed x 57 (omega arith) (omega arith)),
+      ne-eqb (removedNumbers x .n) 56 (not-removed x 56 (omega arith) refl),
+      ne-eqb (removedNumbers x .n) 57 (not-removed x 57 (omega arith) refl),
     ) (ap together.Removal (removed-at x))
 together-at together.LoopList = refl
 together-at (together.StartInside p) = refl
@@ -197,18 +205,14 @@ flag-back false = refl
 followedAt : Numbers → Followed
 followedAt k =
     cond (eqb (k .n) 0) (cond (eqb (k .p) 1) (followed.Taken (eqb (k .q) 1) (k .r)) (followed.NotPossible (eqb (k .q) 1) (k .r)))
-    (cond (eqb (k .n) 53) followed.FollowerSet (followed.Refused (placeAt k)))
+    (followed.Refused (placeAt k))
 
 followed-at : (x : Followed) → followedAt (followedNumbers x) ≡ x
-unfolding followedAt
+unfolding followedAt placed
 followed-at (followed.Taken end offered) = ap (λ b. followed.Taken b offered) (flag-back end)
 followed-at (followed.NotPossible end offered) = ap (λ b. followed.NotPossible b offered) (flag-back end)
 followed-at (followed.Refused place) =
-    rw (
-      ne-eqb (placeNumbers place .n) 0 (λ e. omega (arith, e, numbered place)),
-      ne-eqb (placeNumbers place .n) 53 (not-place place 53 (omega arith) (omega arith)),
-    ) (ap followed.Refused (place-at place))
-followed-at followed.FollowerSet = refl
+    rw (ne-eqb (placeNumbers place .n) 0 (λ e. omega (arith, e, numbered place))) (ap followed.Refused (place-at place))
 
 pub one-followed : (x y : Followed) → followedNumbers x ≡ followedNumbers y → x ≡ y
 one-followed x y e = sym (followed-at x) ∙ ap followedAt e ∙ followed-at y
@@ -217,20 +221,17 @@ one-followed x y e = sym (followed-at x) ∙ ap followedAt e ∙ followed-at y
 wayAt : Numbers → Way
 wayAt k =
     cond (eqb (k .n) 0) (way.Length (k .p))
-    (cond (eqb (k .n) 53) way.FollowerSet
     (cond (eqb (k .n) 55) way.NoWay
-    (way.Refused (placeAt k))))
+    (way.Refused (placeAt k)))
 
 way-at : (x : Way) → wayAt (wayNumbers x) ≡ x
-unfolding wayAt
+unfolding wayAt placed
 way-at (way.Length length) = refl
 way-at (way.Refused place) =
     rw (
       ne-eqb (placeNumbers place .n) 0 (λ e. omega (arith, e, numbered place)),
-      ne-eqb (placeNumbers place .n) 53 (not-place place 53 (omega arith) (omega arith)),
-      ne-eqb (placeNumbers place .n) 55 (not-place place 55 (omega arith) (omega arith)),
+      ne-eqb (placeNumbers place .n) 55 (not-place place 55 refl),
     ) (ap way.Refused (place-at place))
-way-at way.FollowerSet = refl
 way-at way.NoWay = refl
 
 pub one-way : (x y : Way) → wayNumbers x ≡ wayNumbers y → x ≡ y

@@ -3,7 +3,7 @@ use mathlib.Core.Bool.{Bool, cond}
 use Prim.Native.Nat.{ℕ}
 use Rattle.report.specs.declared.Numbers.{Numbers}
 use Rattle.report.specs.declared.Place.{Place}
-use Rattle.report.specs.declared.Place.the-variants.{File, Record, RecordKind, FileOffset, NodesLength, Node, NodeUses, ChartHeader, Transition, LabelsLength, Unreached, BranchCycle, LoopNoReturn, LoopEndInside, LoopNotLower, RelationLength, PairNoVertex, PairStarts, PairEnds, PairExpressionStep, PairChartStep, OutputLength}
+use Rattle.report.specs.declared.Place.the-variants.{File, Record, RecordKind, FileOffset, NodesLength, Node, NodeUses, ChartHeader, Transition, LabelsLength, Unreached, BranchCycle, LoopNoReturn, LoopEndInside, LoopNotLower, RelationLength, PairNoVertex, PairStarts, PairEnds, PairExpressionStep, PairChartStep, FollowerSet, OutputLength}
 use Rattle.report.specs.declared.Verdict.{Verdict}
 use Rattle.report.specs.declared.Verdict.the-variants as verdict
 use Rattle.report.specs.declared.Written.{Written}
@@ -42,6 +42,7 @@ placeNumbers (PairStarts p q) = four 42 p q 0
 placeNumbers (PairEnds p q) = four 43 p q 0
 placeNumbers (PairExpressionStep p q r) = four 44 p q r
 placeNumbers (PairChartStep p q r) = four 45 p q r
+placeNumbers FollowerSet = four 53 0 0 0
 placeNumbers (OutputLength p) = four 54 p 0 0
 
 -- nothing refused: 0, and the counts
@@ -78,11 +79,9 @@ abbrev pub followedNumbers : Followed → Numbers
 followedNumbers (followed.Taken end offered) = four 0 1 (flag end) offered
 followedNumbers (followed.NotPossible end offered) = four 0 0 (flag end) offered
 followedNumbers (followed.Refused place) = placeNumbers place
-followedNumbers followed.FollowerSet = four 53 0 0 0
 
 -- nothing refused: 0, and the length
 abbrev pub wayNumbers : Way → Numbers
 wayNumbers (way.Length length) = four 0 length 0 0
 wayNumbers (way.Refused place) = placeNumbers place
-wayNumbers way.FollowerSet = four 53 0 0 0
 wayNumbers way.NoWay = four 55 0 0 0

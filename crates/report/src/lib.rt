@@ -3,7 +3,7 @@ ghost use mathlib.Core.Path.{_≡_};
 ghost use Rattle.report.specs.Numbers.{four, placeNumbers, verdictNumbers, writtenNumbers, removedNumbers};
 ghost use Rattle.report.specs.Numbers.{togetherNumbers, flag, followedNumbers, wayNumbers};
 
-// A refusal, which holds its place: one case for each number of document 01.
+// A refusal of the check, or one that several calls share; it holds its place. One case for each number.
 pub enum Place {
     // 1: the file is too long
     File,
@@ -47,6 +47,8 @@ pub enum Place {
     PairExpressionStep(usize, usize, usize),
     // 45: pair, and a transition of the file's chart that is not matched
     PairChartStep(usize, usize, usize),
+    // 53: the follower's set is empty or has a vertex of V or above, or its state has not 16 bytes
+    FollowerSet,
     // 54: lent output too short; the bytes needed
     OutputLength(usize),
 }
@@ -103,19 +105,15 @@ pub enum Together {
 pub enum Followed {
     Taken(bool, usize),
     NotPossible(bool, usize),
-    // 20, 21: of the chart
+    // 20, 21: of the chart; 53: of the state
     Refused(Place),
-    // 53: the follower's set is empty, has a vertex of V or above, or has not 16 bytes
-    FollowerSet,
 }
 
 // What the shortest way answers: the length of the list, or a refusal.
 pub enum Way {
     Length(usize),
-    // 20, 21: of the chart; 54: lent output too short
+    // 20, 21: of the chart; 53: of the state; 54: lent output too short
     Refused(Place),
-    // 53: the follower's set, as above
-    FollowerSet,
     // 55: no list of events reaches the end
     NoWay,
 }
@@ -166,6 +164,7 @@ pub fn place_numbers(place: Place) -> Numbers
         Place::PairEnds(p, q) => four_numbers(43, p, q, 0),
         Place::PairExpressionStep(p, q, r) => four_numbers(44, p, q, r),
         Place::PairChartStep(p, q, r) => four_numbers(45, p, q, r),
+        Place::FollowerSet => four_numbers(53, 0, 0, 0),
         Place::OutputLength(p) => four_numbers(54, p, 0, 0),
     }
 }
@@ -229,7 +228,6 @@ pub fn followed_numbers(followed: Followed) -> Numbers
         Followed::Taken(end, offered) => four_numbers(0, 1, flag_number(end), offered),
         Followed::NotPossible(end, offered) => four_numbers(0, 0, flag_number(end), offered),
         Followed::Refused(place) => place_numbers(place),
-        Followed::FollowerSet => four_numbers(53, 0, 0, 0),
     }
 }
 
@@ -239,7 +237,6 @@ pub fn way_numbers(way: Way) -> Numbers
     match way {
         Way::Length(length) => four_numbers(0, length, 0, 0),
         Way::Refused(place) => place_numbers(place),
-        Way::FollowerSet => four_numbers(53, 0, 0, 0),
         Way::NoWay => four_numbers(55, 0, 0, 0),
     }
 }

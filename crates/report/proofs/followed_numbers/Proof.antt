@@ -28,12 +28,6 @@ enum-known-followed-3 c = search needs
 place-numbers-requires : tie.Need-place-numbers-requires
 place-numbers-requires c κs = search needs
 
-enum-told : tie.Need-enum-told
-enum-told c = search needs
-
-four-numbers-requires-3 : tie.Need-four-numbers-requires-3
-four-numbers-requires-3 c κs = search needs
-
 returns : tie.Need-returns
 returns c =
     c .four-numbers .ensures ∙ ap (λ e. four 0 1 e (c .before .before .before .followed .given .0 .1 .0))
@@ -47,9 +41,6 @@ returns-2 c =
 returns-3 : tie.Need-returns-3
 returns-3 c = c .place-numbers .ensures ∙ sym (ap followedNumbers (c .before .before .followed3 .given .1))
 
-returns-4 : tie.Need-returns-4
-returns-4 c = c .four-numbers3 .ensures ∙ sym (ap followedNumbers (c .before .enum-told .given .1))
-
 pub followed-numbers-spec : {M : Type 1} → statement M
 followed-numbers-spec =
     tie.close
@@ -62,9 +53,6 @@ followed-numbers-spec =
     four-numbers-requires-2
     enum-known-followed-3
     place-numbers-requires
-    enum-told
-    four-numbers-requires-3
     returns
     returns-2
-    returns-3
-    returns-4)
+    returns-3)

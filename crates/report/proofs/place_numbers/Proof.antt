@@ -130,11 +130,17 @@ enum-known-place-19 c = search needs
 four-numbers-requires-21 : tie.Need-four-numbers-requires-21
 four-numbers-requires-21 c κs = search needs
 
-enum-known-place-20 : tie.Need-enum-known-place-20
-enum-known-place-20 c = search needs
+enum-told-3 : tie.Need-enum-told-3
+enum-told-3 c = search needs
 
 four-numbers-requires-22 : tie.Need-four-numbers-requires-22
 four-numbers-requires-22 c κs = search needs
+
+enum-known-place-20 : tie.Need-enum-known-place-20
+enum-known-place-20 c = search needs
+
+four-numbers-requires-23 : tie.Need-four-numbers-requires-23
+four-numbers-requires-23 c κs = search needs
 
 returns : tie.Need-returns
 returns c = c .four-numbers .ensures ∙ sym (ap placeNumbers (c .before .enum-told .given .1))
@@ -200,7 +206,10 @@ returns-21 : tie.Need-returns-21
 returns-21 c = c .four-numbers21 .ensures ∙ sym (ap placeNumbers (c .before .before .place19 .given .1))
 
 returns-22 : tie.Need-returns-22
-returns-22 c = c .four-numbers22 .ensures ∙ sym (ap placeNumbers (c .before .before .place20 .given .1))
+returns-22 c = c .four-numbers22 .ensures ∙ sym (ap placeNumbers (c .before .enum-told3 .given .1))
+
+returns-23 : tie.Need-returns-23
+returns-23 c = c .four-numbers23 .ensures ∙ sym (ap placeNumbers (c .before .before .place20 .given .1))
 
 pub place-numbers-spec : {M : Type 1} → statement M
 place-numbers-spec =
@@ -248,8 +257,10 @@ place-numbers-spec =
     four-numbers-requires-20
     enum-known-place-19
     four-numbers-requires-21
-    enum-known-place-20
+    enum-told-3
     four-numbers-requires-22
+    enum-known-place-20
+    four-numbers-requires-23
     returns
     returns-2
     returns-3
@@ -271,4 +282,5 @@ place-numbers-spec =
     returns-19
     returns-20
     returns-21
-    returns-22)
+    returns-22
+    returns-23)

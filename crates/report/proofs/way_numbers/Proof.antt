@@ -22,12 +22,6 @@ enum-told c = search needs
 four-numbers-requires-2 : tie.Need-four-numbers-requires-2
 four-numbers-requires-2 c κs = search needs
 
-enum-told-2 : tie.Need-enum-told-2
-enum-told-2 c = search needs
-
-four-numbers-requires-3 : tie.Need-four-numbers-requires-3
-four-numbers-requires-3 c κs = search needs
-
 returns : tie.Need-returns
 returns c = c .four-numbers .ensures ∙ sym (ap wayNumbers (c .before .before .way .given .1))
 
@@ -36,9 +30,6 @@ returns-2 c = c .place-numbers .ensures ∙ sym (ap wayNumbers (c .before .befor
 
 returns-3 : tie.Need-returns-3
 returns-3 c = c .four-numbers2 .ensures ∙ sym (ap wayNumbers (c .before .enum-told .given .1))
-
-returns-4 : tie.Need-returns-4
-returns-4 c = c .four-numbers3 .ensures ∙ sym (ap wayNumbers (c .before .enum-told2 .given .1))
 
 pub way-numbers-spec : {M : Type 1} → statement M
 way-numbers-spec =
@@ -50,9 +41,6 @@ way-numbers-spec =
     place-numbers-requires
     enum-told
     four-numbers-requires-2
-    enum-told-2
-    four-numbers-requires-3
     returns
     returns-2
-    returns-3
-    returns-4)
+    returns-3)
