@@ -1,6 +1,6 @@
 -- 20 and 21 are all that the check of a chart body refuses.
 use mathlib.Core.Path.{_≡_, sym, subst}
-use mathlib.Core.Logic.{_⊎_, inl, inr, ⊎-elim}
+use mathlib.Core.Logic.{_⊎_, inl, inr, ⊎-elim, _↔_}
 use mathlib.Core.Bool.{Bool, true, false, cond}
 use mathlib.Core.List.{List}
 use Prim.Native.Nat.{ℕ, zero, suc}
@@ -11,6 +11,7 @@ use Rattle.report.specs.declared.Stage.the-variants.{Refused}
 use Rattle.theory.specs.Least.{Least}
 use Rattle.chart.specs.Bodies.{countOf, HeaderFits, Faulty}
 use Rattle.chart.specs.Checks.{headerOk, okAt, firstBad, checkOf}
+use Rattle.chart.specs.Refusals.{ChartRefused, other-header, faulty-at}
 use Rattle.chart.proofs.Checks.{check-20, check-21}
 
 module _ (b : List ℕ) where
@@ -41,3 +42,11 @@ module _ (b : List ℕ) where
       (λ q. subst A (sym q) (f (check-20 b .0 (rw q at e))))
       (λ (i, q). let (h, l) = check-21 b i .0 (rw q at e) in subst A (sym q) (g i h l))
       (refused-places e)
+
+  -- THE CHECK REFUSES exactly what 20 and 21 say
+  pub chart-refused : (p : Place) → (checkOf b ≡ Refused p) ↔ ChartRefused b p
+  chart-refused p = (refused-cases (ChartRefused b) other-header (λ i. faulty-at) p, refuses)
+    where
+      refuses : {p : Place} → ChartRefused b p → checkOf b ≡ Refused p
+      refuses (other-header h) = check-20 b .1 h
+      refuses (faulty-at h f) = check-21 b _ .1 (h, f)
