@@ -13,7 +13,7 @@ use lib.ListN.{length, getD, List·getD-eq-default}
 use lib.Seq.{ext-getD}
 use borrow.Author.Tests.{eq-eqb, eqb-true, lt-ltb}
 use Rattle.theory.specs.Ascending.{Below, Ascending}
-use Rattle.theory.specs.Tests.{someIn}
+use Rattle.theory.specs.Tests.{Decides, someIn}
 use Rattle.theory.proofs.Tests.{decides-eqb, decides-listed}
 use Rattle.bits.specs.Bits.{Bytes, hasBit, bitsOf, bytesFrom, setBytes, listFrom}
 use Rattle.bits.specs.Words.{On}
@@ -21,7 +21,8 @@ use Rattle.bits.proofs.Words.{bit-below}
 use Rattle.bits.proofs.Packed.{stacked-low, stacked-high}
 use Rattle.bits.proofs.Determined.{test-one}
 use Rattle.bits.proofs.Members.{same-word}
-use Rattle.follower.specs.States.{membersOf, stateOf}
+use Rattle.follower.specs.declared.Follower.{Follower}
+use Rattle.follower.specs.States.{InState, membersOf, setOf}
 
 -- ONE BYTE
 module _ (p : ℕ → Bool) where
@@ -161,18 +162,12 @@ module _ (p : ℕ → Bool) where
       go false f a = a
 
 -- THE MEMBERS OF A STATE are the vertices whose bits it has
-pub members-are : (s : List ℕ) (v : ℕ) → List·Memᴰ v (membersOf s) ↔ ((v < 128) × (hasBit s v ≡ true))
-members-are s v = (
-  λ m. let (l, h, e) = list-from→ (hasBit s) 0 128 v m in (omega arith, e),
-  λ (h, e). list-from← (hasBit s) 0 128 v (omega arith) (omega arith) e,
+pub members-are : (f : Follower) (v : ℕ) → List·Memᴰ v (membersOf f) ↔ InState f v
+members-are f v = (
+  λ m. let (l, h, e) = list-from→ (hasBit (f .set)) 0 128 v m in (omega arith, e),
+  λ (h, e). list-from← (hasBit (f .set)) 0 128 v (omega arith) (omega arith) e,
 )
 
--- and of a list's bytes those below 128 that are in the list
-pub state-members : (xs : List ℕ) (v : ℕ) → List·Memᴰ v (membersOf (stateOf xs)) ↔ ((v < 128) × List·Memᴰ v xs)
-state-members xs v = Iff·trans (members-are (stateOf xs) v) (
-  λ (h, e). (h, decides-listed v xs .0 (sym (bit h) ∙ e)),
-  λ (h, m). (h, bit h ∙ decides-listed v xs .1 m),
-)
-  where
-    bit : v < 128 → hasBit (stateOf xs) v ≡ someIn (eqb v) xs
-    bit h = set-bit (λ v. someIn (eqb v) xs) v h
+-- and the bytes of a list of vertices have the bits of just these
+pub set-has : (xs : List ℕ) (v : ℕ) → v < 128 → Decides (hasBit (setOf xs) v) (List·Memᴰ v xs)
+set-has xs v h = rw (set-bit (λ v. someIn (eqb v) xs) v h) (decides-listed v xs)

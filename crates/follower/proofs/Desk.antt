@@ -5,7 +5,8 @@ use Prim.Native.Nat.{suc, ℕ}
 use mathlib.Core.List.{[], _∷_, List, _++_}
 use mir.Syntax.{w8}
 use denote.Ref.{RefT, now}
-use Rattle.follower.specs.States.{eventOf, restartFrom}
+use Rattle.theory.specs.Events.{restart, event}
+use Rattle.follower.specs.Calls.{calledOn}
 use Rattle.follower.specs.declared.Follower.{Follower}
 use Rattle.follower.specs.declared.Moved.{Moved}
 use Rattle.follower.proofs.Shared.{Shared, bytes, number}
@@ -33,7 +34,7 @@ abbrev pub Told : Type 0 → Type 0
 Told X = RefT (List ℕ) × X
 
 abbrev pub event-does : Follower → Told (ℕ × Unit {0}) → Moved
-event-does h (chart, (action, _)) = eventOf (now chart) h action
+event-does h (chart, (action, _)) = calledOn (now chart) h (event action)
 
 abbrev pub restart-does : Follower → Told (Unit {0}) → Moved
-restart-does h (chart, _) = restartFrom (now chart) h
+restart-does h (chart, _) = calledOn (now chart) h restart

@@ -17,8 +17,10 @@ use Rattle.bits.proofs.Members.{has?}
 use Rattle.bits.proofs.Gains.{put-long, put-here, put-other}
 use Rattle.bits.proofs.Visits.{Visit, FromPast, visits-none, visits-more, visits-all}
 use Rattle.chart.specs.Bodies.{verticesOf, WellFormed}
+use Rattle.chart.specs.Systems.{systemOf}
 use Rattle.chart.specs.Images.{LeadsTo}
-use Rattle.follower.specs.Layers.{actsChart, SomeEnds, ReadRows, Layered}
+use Rattle.chart.proofs.Relations.{acts-member}
+use Rattle.follower.specs.Layers.{SomeEnds, ReadRows, Layered}
 
 -- THE TARGETS OF A LAYER: of its vertices that are left no longer
 pub record Reading (b : List ℕ) (layer left : Set) (before : List ℕ) (all : Set) (rows : List ℕ) : Type 0 where
@@ -67,22 +69,22 @@ module _ {b : List ℕ} {layer : Set} where
 pub record Within (b : List ℕ) (set : Set) (k x : ℕ) : Type 0 where
   pub steps : ℕ
   pub few : steps ≤ k
-  pub reached : ReachedIn (actsChart b) (Has set) steps x
+  pub reached : ReachedIn (systemOf b) (Has set) steps x
 
 -- the layers before k are in the table, with the rows of their vertices, and none has the end; layer k, and all up to it
 pub record Layering (b : List ℕ) (set : Set) (k : ℕ) (layers rows : List ℕ) (layer seen : Set) : Type 0 where
   pub layers-long : length layers ≡ 256
   pub rows-long : length rows ≡ 256
   pub within : k ≤ verticesOf b
-  pub at : Members (FirstIn (actsChart b) (Has set) k) layer
+  pub at : Members (FirstIn (systemOf b) (Has set) k) layer
   pub near : Members (Within b set k) seen
-  pub before : (j : ℕ) → j < k → Members (FirstIn (actsChart b) (Has set) j) (rowOf layers j)
+  pub before : (j : ℕ) → j < k → Members (FirstIn (systemOf b) (Has set) j) (rowOf layers j)
   pub row : (j u : ℕ) → j < k → HasRow layers j u → Members (LeadsTo b u) (rowOf rows u)
   pub sooner : (j : ℕ) → j < k → ¬ SomeEnds b set j
 
 module _ (b : List ℕ) where
   abbrev M : System
-  M = actsChart b
+  M = systemOf b
 
   -- from the set to the end in k steps
   module _ {set : Set} {k : ℕ} where
@@ -156,14 +158,15 @@ module _ (b : List ℕ) where
       next-first u g =
           let (p, q) = D u .0 g in
           let (x, m, (a, s)) = R .all .exactly u (g .below) .0 p in
-          first-more M s (L .at .exactly x (m .below) .0 m)
+          first-more M (acts-member b x a u .0 s) (L .at .exactly x (m .below) .0 m)
           (λ j l r. q (L .near .exactly u (g .below) .1 (record { steps = j; few = l; reached = r })))
 
       first-next : (u : ℕ) → u < 128 → FirstIn M (Has set) (suc k) u → Has next u
       first-next u l F =
-          let (x, a, r, s) = reached-less M (F .holds) in
+          let (x, a, r, t) = reached-less M (F .holds) in
+          let s = acts-member b x a u .1 t in
           let m : x < 128 = omega (arith, s .leaves, W .each (s .at) (s .within) .from-high, W .header .vertices-high) in
-          let p = R .all .exactly u l .1 (x, L .at .exactly x m .1 (first-less M F r s), (a, s)) in
+          let p = R .all .exactly u l .1 (x, L .at .exactly x m .1 (first-less M F r t), (a, s)) in
           D u .1 (p, λ g. let w = L .near .exactly u l .0 g in F .lowest (w .steps) (omega (arith, w .few)) (w .reached))
 
       read-row : (j u : ℕ) → j < suc k → HasRow stored j u → Members (LeadsTo b u) (rowOf read u)

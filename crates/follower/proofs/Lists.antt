@@ -7,99 +7,111 @@ use mathlib.Core.Bool.{Bool}
 use mathlib.Core.List.{List, map, List·Memᴰ, Memᴰ·of-map}
 use lib.ListN.{length}
 use Rattle.theory.specs.Events.{Call, restart, event, Word, Answer, answer, refused-53, eventRule}
-use Rattle.theory.specs.Followers.{Responds, Follows}
 use Rattle.theory.specs.Runs.{run, runLeaves}
 use Rattle.theory.proofs.Followers.{one-answers, from-fresh}
 use Rattle.theory.proofs.Events.{never-refused}
 use Rattle.theory.proofs.Runs.{run-follows}
 use Rattle.report.specs.declared.Followed.{Followed}
 use Rattle.chart.specs.Bodies.{WellFormed}
+use Rattle.chart.specs.Systems.{systemOf}
 use Rattle.chart.proofs.Checks.{passes}
 use Rattle.follower.specs.declared.Follower.{Follower}
 use Rattle.follower.specs.declared.Moved.{Moved}
-use Rattle.follower.specs.States.{followedAs, bytesAfter, restartOf, restartFrom, restartLent}
-use Rattle.follower.specs.FollowerAnswers.{chartOf, Gives, StateBytes, InState, FreshStart, SetPasses, Ready}
-use Rattle.follower.specs.Lists.{called, byValue, inPlace, lent, ByRule}
-use Rattle.follower.proofs.Calls.{fresh-start, fresh-passes, call-ruled, still-passes, lent-sixteen}
+use Rattle.follower.specs.States.{stateSize, bytesIn, stateIn, Formed, InState, keptIn, noState}
+use Rattle.follower.specs.Calls.{followedAs, calledOn, lentOn}
+use Rattle.follower.specs.FollowerAnswers.{FreshStart, SetPasses}
+use Rattle.follower.specs.Lists.{byValue, inPlace, RuleResponds, RuleFollows, ByRule}
+use Rattle.follower.proofs.Calls.{Gives, Ready, fresh-passes, called-ruled, restart-alike, call-ruled, fresh-called, still-passes, lent-held}
 
-ready : {b s : List ℕ} (c : Call) → SetPasses b s → Ready b s c
+ready : {b : List ℕ} {f : Follower} (c : Call) → SetPasses b f → Ready b f c
 ready restart p = tt
 ready (event a) p = p
 
--- the answers ys to a list of calls on the state s are the rule's, and so is the state t after them
-pub record RunRuled (b s : List ℕ) (cs : List Call) (ys : List Followed) (t : List ℕ) : Type 1 where
+-- the answers ys to a list of calls on the state f are the rule's, and so is the state g after them
+pub record RunRuled (b : List ℕ) (f : Follower) (cs : List Call) (ys : List Followed) (g : Follower) : Type 1 where
   pub answers : List Answer
   pub written : ys ≡ map followedAs answers
-  pub follows : Follows eventRule (chartOf b) (InState s) tt cs answers (InState t) tt
+  pub follows : RuleFollows b f cs answers g
+  pub formed : Formed g
+  pub passes : SetPasses b g
 
 module _ {b : List ℕ} (W : WellFormed b) where
-  -- whatever answers and leaves what one call on the state does, where 53 passes
-  module _ {S : Type 0} (f : S → Call → Followed × S) (set : S → List ℕ)
-      (same : (s : S) (c : Call) → StateBytes (set s) → Gives (called b (record { set = set s }) c) (f s c .0) (set (f s c .1))) where
-    run-ruled : (s : S) → StateBytes (set s) → SetPasses b (set s) → (cs : List Call) → RunRuled b (set s) cs (run f cs s)
-        (set (runLeaves f cs s))
-    run-ruled s G p cs =
-        let (xs, e, h, g) =
-        run-follows eventRule (chartOf b) f followedAs (λ s. InState (set s)) (λ s. tt)
-        (λ s. StateBytes (set s) × SetPasses b (set s)) each cs s (G, p) in
-        record { answers = xs; written = e; follows = h }
+  -- whatever answers and leaves what one call on the state does, where 53 passes; Own is what it asks of its states
+  module _ {S : Type 0} (step : S → Call → Followed × S) (state : S → Follower) (Own : S → Type 0)
+      (own : (s : S) → Own s → Formed (state s))
+      (same : (s : S) (c : Call) → Own s → Gives b (calledOn b (state s) c) (step s c .0) (state (step s c .1)))
+      (next : (s : S) (c : Call) → Own s → Formed (calledOn b (state s) c .follower) → Own (step s c .1)) where
+    run-ruled : (s : S) → Own s → SetPasses b (state s) → (cs : List Call)
+        → RunRuled b (state s) cs (run step cs s) (state (runLeaves step cs s))
+    run-ruled s o p cs =
+        let (xs, e, h, (o′, p′)) =
+        run-follows eventRule (systemOf b) step followedAs (λ s. InState (state s)) (λ s. keptIn (state s))
+        (λ s. Own s × SetPasses b (state s)) each cs s (o, p) in
+        record { answers = xs; written = e; follows = h; formed = own _ o′; passes = p′ }
       where
-        each : (s : S) (c : Call) → StateBytes (set s) × SetPasses b (set s)
-            → (x : Answer) × (f s c .0 ≡ followedAs x)
-            × Responds eventRule (chartOf b) (InState (set s)) tt c x (InState (set (f s c .1))) tt
-            × (StateBytes (set (f s c .1)) × SetPasses b (set (f s c .1)))
-        each s c (S, p) =
-            let R = call-ruled W (record { set = set s }) c S (ready c p) in
-            let (e, q) = same s c S in
-            let r = subst (λ t. Responds eventRule (chartOf b) (InState (set s)) tt c (R .answer) (InState t) tt) q (R .responds) in
-            (R .answer, sym e ∙ R .answered, r, (subst StateBytes q (R .state), still-passes W p r))
+        each : (s : S) (c : Call) → Own s × SetPasses b (state s)
+            → (x : Answer) × (step s c .0 ≡ followedAs x) × RuleResponds b (state s) c x (state (step s c .1))
+            × (Own (step s c .1) × SetPasses b (state (step s c .1)))
+        each s c (o, p) =
+            let R = call-ruled W (state s) c (own s o) (ready c p) in
+            let (e, q) = same s c o in
+            let r = subst (RuleResponds b (state s) c (R .answer)) q (R .responds) in
+            (R .answer, sym e ∙ R .answered, r, (next s c o (R .formed), still-passes W p r))
 
-    list-follows : (s : S) → FreshStart b (set s) → (cs : List Call) → ByRule b cs (run f cs s)
-    list-follows s F cs =
-        let R = run-ruled s (F .state) (fresh-passes W F) cs in
-        record { answers = R .answers; written = R .written; rule = from-fresh eventRule (chartOf b) (F .alone) (R .follows) }
+    list-follows : (s : S) → Own s → FreshStart b (state s) → (cs : List Call) → ByRule b cs (run step cs s)
+    list-follows s o F cs =
+        let R = run-ruled s o (fresh-passes W F) cs in
+        record { answers = R .answers; written = R .written; rule = from-fresh eventRule (systemOf b) (F .alone) (R .follows) }
 
-  -- BY VALUE, IN PLACE AND LENT
-  pub by-value-follows : (f : Follower) → FreshStart b (f .set) → (cs : List Call) → ByRule b cs (run (byValue b) cs f)
-  unfolding restartFrom
-  by-value-follows = list-follows (byValue b) (λ f. f .set) same
-    where
-      same : (f : Follower) (c : Call) → StateBytes (f .set) → Gives (called b f c) (byValue b f c .0) (byValue b f c .1 .set)
-      same f restart S = rw (passes b W) (refl, refl)
-      same f (event a) S = (refl, refl)
+  -- BY VALUE AND IN PLACE
+  restart-same : (f g : Follower) → calledOn b f restart ≡ calledOn b g restart
+  restart-same f g =
+      called-ruled b f restart (passes b W) refl ∙ restart-alike b f g ∙ sym (called-ruled b g restart (passes b W) refl)
 
-  pub in-place-follows : (f : Follower) → FreshStart b (f .set) → (cs : List Call) → ByRule b cs (run (inPlace b) cs f)
-  in-place-follows = list-follows (inPlace b) (λ f. f .set) (λ f c S. (refl, refl))
+  value-same : (f : Follower) (c : Call) → Gives b (calledOn b f c) (byValue b f c .0) (byValue b f c .1)
+  value-same f restart =
+      let e = restart-same f noState in (ap (λ (m : Moved). m .answer) e, ap (λ (m : Moved). m .follower) e)
+  value-same f (event a) = (refl, refl)
 
-  lent-same : (s : List ℕ) (c : Call) → StateBytes s → Gives (called b (record { set = s }) c) (lent b s c .0) (lent b s c .1)
-  lent-same s c S = same (lent-sixteen b s (S .sixteen) c)
-    where
-      same : {m n : Moved} → n ≡ m → Gives m (n .answer) (n .follower .set)
-      same e = (ap (λ m. m .answer) (sym e), ap (λ m. m .follower .set) (sym e))
+  pub by-value-follows : (f : Follower) → FreshStart b f → (cs : List Call) → ByRule b cs (run (byValue b) cs f)
+  by-value-follows f F = list-follows (byValue b) (λ f. f) Formed (λ f F. F) (λ f c F. value-same f c)
+      (λ f c F G. subst Formed (value-same f c .1) G) f (F .formed) F
 
-  pub lent-follows : (s : List ℕ) → FreshStart b s → (cs : List Call) → ByRule b cs (run (lent b) cs s)
-  lent-follows = list-follows (lent b) (λ s. s) lent-same
+  pub in-place-follows : (f : Follower) → FreshStart b f → (cs : List Call) → ByRule b cs (run (inPlace b) cs f)
+  in-place-follows f F = list-follows (inPlace b) (λ f. f) Formed (λ f F. F) (λ f c F. (refl, refl)) (λ f c F G. G) f (F .formed) F
+
+  -- LENT BYTES that hold a state
+  pub record Holding (s : List ℕ) : Type 0 where
+    pub long : length s ≡ stateSize
+    pub formed : Formed (stateIn s)
+
+  pub holding : {f : Follower} → Formed f → Holding (bytesIn f)
+  holding F = record { long = F .sixteen; formed = F }
+
+  lent-same : (s : List ℕ) (c : Call) → Holding s → Gives b (calledOn b (stateIn s) c) (lentOn b s c .0) (stateIn (lentOn b s c .1))
+  lent-same s c H = rw (lent-held b s c (H .long)) (refl, refl)
+
+  lent-next : (s : List ℕ) (c : Call) → Holding s → Formed (calledOn b (stateIn s) c .follower) → Holding (lentOn b s c .1)
+  lent-next s c H G = rw (lent-held b s c (H .long)) (holding G)
+
+  pub lent-follows : (s : List ℕ) → Holding s → FreshStart b (stateIn s) → (cs : List Call) → ByRule b cs (run (lentOn b) cs s)
+  lent-follows = list-follows (lentOn b) stateIn Holding (λ s H. H .formed) lent-same lent-next
 
   -- from any state that passes
-  pub lent-run : (s : List ℕ) → StateBytes s → SetPasses b s → (cs : List Call)
-      → RunRuled b s cs (run (lent b) cs s) (runLeaves (lent b) cs s)
-  lent-run = run-ruled (lent b) (λ s. s) lent-same
+  pub lent-run : (s : List ℕ) → Holding s → SetPasses b (stateIn s) → (cs : List Call)
+      → RunRuled b (stateIn s) cs (run (lentOn b) cs s) (stateIn (runLeaves (lentOn b) cs s))
+  lent-run = run-ruled (lentOn b) stateIn Holding (λ s H. H .formed) lent-same lent-next
 
-  -- FRESH STARTS: what a restart hands back or leaves
-  pub fresh-in-place : (f : Follower) → FreshStart b (restartFrom b f .follower .set)
-  unfolding restartFrom bytesAfter
-  fresh-in-place f = rw (passes b W) (fresh-start W)
-
-  pub fresh-by-value : FreshStart b (restartOf b .follower .set)
-  fresh-by-value = fresh-in-place _
-
-  pub fresh-lent : (s : List ℕ) → length s ≡ 16 → FreshStart b (restartLent b s .follower .set)
-  fresh-lent s l = rw (lent-sixteen b s l restart) (fresh-in-place (record { set = s }))
+  -- FRESH STARTS in lent bytes: what a restart leaves there
+  pub fresh-held : (s : List ℕ) → length s ≡ stateSize → Holding (lentOn b s restart .1) × FreshStart b (stateIn (lentOn b s restart .1))
+  fresh-held s l =
+      let F = fresh-called W (stateIn s) in
+      rw (lent-held b s restart l) (holding (F .formed), F)
 
 module _ {b : List ℕ} {cs : List Call} where
   -- the answers are determined
   pub one-by-rule : {ys zs : List Followed} → ByRule b cs ys → ByRule b cs zs → ys ≡ zs
-  one-by-rule R Z = R .written ∙ ap (map followedAs) (one-answers eventRule (chartOf b) (R .rule) (Z .rule)) ∙ sym (Z .written)
+  one-by-rule R Z = R .written ∙ ap (map followedAs) (one-answers eventRule (systemOf b) (R .rule) (Z .rule)) ∙ sym (Z .written)
 
   -- and none is a refusal
   pub none-refused : {ys : List Followed} → ByRule b cs ys → (y : Followed) → List·Memᴰ y ys

@@ -19,7 +19,9 @@ use Rattle.bits.proofs.Gains.{put-long, put-here, put-other}
 use Rattle.bits.proofs.Visits.{Visit, not-empty, FromPast, past-still, past-new, past-or, past-all, visits-none}
 use Rattle.chart.specs.Bodies.{verticesOf, WellFormed}
 use Rattle.chart.proofs.Rows.{to-low}
-use Rattle.follower.specs.Layers.{actsChart, Layered, Leading, Narrowed, Leads, Writes}
+use Rattle.chart.specs.Systems.{systemOf}
+use Rattle.chart.proofs.Relations.{acts-member}
+use Rattle.follower.specs.Layers.{Layered, Leading, Narrowed, Leads, Writes}
 
 -- ONE LAYER: a vertex whose row meets the aim stays
 abbrev pub Stays : List ℕ → Set → ℕ → ℕ → Type 0
@@ -128,7 +130,7 @@ module _ {rows : List ℕ} {d : ℕ} (low : d < 128) {before : List ℕ} where
 module _ {b : List ℕ} (W : WellFormed b) {set : Set} {d : ℕ} {layers rows after : List ℕ} (L : Layered b set d layers rows)
     (v : d < verticesOf b) (N : Narrowed rows d layers after) where
   abbrev M : System
-  M = actsChart b
+  M = systemOf b
 
   -- reached in k steps and j from the end, where these are d together
   first : {j k u : ℕ} → k + j ≡ d → ReachedIn M (Has set) k u → EndsIn M j u → FirstIn M (Has set) k u
@@ -162,16 +164,17 @@ module _ {b : List ℕ} (W : WellFormed b) {set : Set} {d : ℕ} {layers rows af
       to g =
           let (m, (w, p, q)) = N .each k h .exactly u l .0 g in
           let (a, s) = L .row v k u h m .exactly w (p .below) .0 p in
-          (at .0 m, ends-in-more M s (I w (q .below) .0 q .1))
+          (at .0 m, ends-in-more M (acts-member b u a w .0 s) (I w (q .below) .0 q .1))
 
       from : FirstIn M (Has set) k u × EndsIn M (suc j) u → HasRow after k u
       from (F, f) =
-          let (a, w, s, g) = ends-in-less M f in
+          let (a, w, t, g) = ends-in-less M f in
+          let s = acts-member b u a w .1 t in
           let m = at .1 F in
           let i : w < 128 = omega (arith, s .enters, to-low W (s .at) (s .within)) in
           N .each k h .exactly u l .1 (
             m,
-            (w, L .row v k u h m .exactly w i .1 (a, s), I w i .1 (first e (onward (F .holds) s) g, g)),
+            (w, L .row v k u h m .exactly w i .1 (a, s), I w i .1 (first e (onward (F .holds) t) g, g)),
           )
 
   left : (j k : ℕ) → k + j ≡ d → Left j k
@@ -198,7 +201,7 @@ module _ {b : List ℕ} (W : WellFormed b) {set : Set} {d : ℕ} {layers rows af
     ends = λ k x l g. at-place k x l g .1;
     onward = λ k u a w l g s e.
         left (d - suc k) (suc k) (omega (arith, l)) w (omega (arith, s .enters, to-low W (s .at) (s .within))) .1
-        (first (omega (arith, l)) (onward (at-place k u (omega (arith, l)) g .0 .holds) s) e, e);
+        (first (omega (arith, l)) (onward (at-place k u (omega (arith, l)) g .0 .holds) (acts-member b u a w .0 s)) e, e);
   }
 
   -- and the list from these is the list from the set

@@ -20,8 +20,11 @@ use Rattle.bits.specs.declared.sets.Set.{Set}
 use Rattle.bits.specs.Sets.{Has, Empty, Members, Intersection}
 use Rattle.bits.specs.Tables.{rowOf, HasRow}
 use Rattle.bits.proofs.Members.{has?}
+use Rattle.chart.specs.Steps.{ActsOf}
+use Rattle.chart.specs.Systems.{systemOf}
 use Rattle.chart.specs.Images.{Image, LeadsInto}
-use Rattle.follower.specs.Layers.{actsChart, Leads, OnwardBy, Writes}
+use Rattle.chart.proofs.Relations.{acts-member}
+use Rattle.follower.specs.Layers.{Leads, OnwardBy, Writes}
 
 -- THE TARGETS IN THE NEXT LAYER, which has one vertex or more
 module _ {b : List ℕ} {near aim : Set} {a : ℕ} where
@@ -65,12 +68,12 @@ pub record Walking (b : List ℕ) (d : ℕ) (layers before : List ℕ) (i : ℕ)
   pub past : drop d out ≡ drop d before
   pub some : (x : ℕ) × Has near x
   pub away : (x : ℕ) → Has near x → HasRow layers i x
-  pub goes : (xs : List ℕ) → LowestOf (actsChart b) (d - i) (Has near) xs
-      → LowestOf (actsChart b) d (Has (rowOf layers 0)) (take i out ++ xs)
+  pub goes : (xs : List ℕ) → LowestOf (systemOf b) (d - i) (Has near) xs
+      → LowestOf (systemOf b) d (Has (rowOf layers 0)) (take i out ++ xs)
 
 module _ (b : List ℕ) where
   abbrev M : System
-  M = actsChart b
+  M = systemOf b
 
   -- THE FIRST PLACE
   pub walking-first : {d : ℕ} {layers : List ℕ} {near : Set} → Leads b d layers → near ≡ rowOf layers 0 → (out : List ℕ)
@@ -95,13 +98,14 @@ module _ (b : List ℕ) where
     left = omega arith
 
     -- a step from a vertex that is near to one from which the steps that are left lead to the end
-    steps-into : {u x w : ℕ} → Has near u → M .Step u x w → EndsIn M (d - suc i) w → Has aim w
+    steps-into : {u x w : ℕ} → Has near u → ActsOf b u x w → EndsIn M (d - suc i) w → Has aim w
     steps-into {u} {x} {w} g t f = rw (e, add-one i) (L .onward i u x w h (K .away u g) t f)
 
     pub action-low : a < 256
     action-low =
         let (u, g) = K .some in
-        let (x, w, t, f) = ends-in-less M (rw left at (L .ends i u (omega arith) (K .away u g))) in
+        let (x, w, m, f) = ends-in-less M (rw left at (L .ends i u (omega arith) (K .away u g))) in
+        let t = acts-member b u x w .1 m in
         let l : x < 256 = omega (arith, t .holds .is, B (4 * t .at + 4 + 1)) in
         by-cases (decLt a 256) (λ q. q)
         (λ q. absurd (F .before x (omega arith) (omega (arith, l, q))
@@ -112,10 +116,13 @@ module _ (b : List ℕ) where
 
     module _ {next : Set} (T : Members (OnwardBy b near aim a) next) where
       into : (y : ℕ) → Has next y → Next M (Has near) a y
-      into y g = T .exactly y (g .below) .0 g .0
+      into y g = let (u, n, t) = T .exactly y (g .below) .0 g .0 in (u, n, acts-member b u a y .0 t)
 
       back : (y : ℕ) → Next M (Has near) a y → EndsIn M (d - suc i) y → Has next y
-      back y (u, g, t) f = let q = steps-into g t f in T .exactly y (q .below) .1 ((u, g, t), q)
+      back y (u, g, m) f =
+          let t = acts-member b u a y .1 m in
+          let q = steps-into g t f in
+          T .exactly y (q .below) .1 ((u, g, t), q)
 
       pub walking-more : i < length out → Walking b d layers before (i + 1) next (set out i a)
       walking-more l = rw (add-one i) (record {
@@ -129,7 +136,8 @@ module _ (b : List ℕ) where
       })
         where
           below : (x : ℕ) → x < a → (y : ℕ) → Next M (Has near) x y → ¬ EndsIn M (d - suc i) y
-          below x q y (u, g, t) f =
+          below x q y (u, g, m) f =
+              let t = acts-member b u x y .1 m in
               F .before x (omega arith) q (record { to = y; image = (u, g, t); member = steps-into g t f })
 
   -- ALL PLACES

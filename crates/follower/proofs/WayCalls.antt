@@ -2,23 +2,21 @@
 use Prim.Native.Nat.{ℕ, _*_, _+_, _≤_, _<_}
 use mathlib.Core.Path.{_≡_, refl, sym, ap, _∙_, subst}
 use mathlib.Core.Logic.{_↔_, Iff·symm, Iff·trans, by-cases}
-use mathlib.Core.Bool.{true}
 use mathlib.Core.List.{List, map, List·Memᴰ, Memᴰ·of-map, _++_}
-use native.Mathlib.Decide.{decLt}
+use native.Mathlib.Decide.{ℕ-discrete, decLt}
 use native.Mathlib.Nat.{le-refl}
 use native.Mathlib.Omega.{arith}
 use lib.ListN.{length, drop}
-use borrow.Author.Tests.{lt-ltb, le-ltb}
+use borrow.Author.Tests.{eq-eqb, ne-eqb, lt-ltb, le-ltb}
 use Rattle.theory.specs.Least.{Least}
-use Rattle.theory.specs.Tests.{Decides}
 use Rattle.theory.specs.Systems.{System}
 use Rattle.theory.specs.Followers.{StateSet, HoldsEnd, Follows}
 use Rattle.theory.specs.Events.{event, Answer, taken, eventRule}
 use Rattle.theory.specs.Runs.{Machine, system, MembersOf}
 use Rattle.theory.specs.Ways.{Shortest, EndsFrom, LowestOf}
 use Rattle.theory.proofs.Search.{least-one}
-use Rattle.theory.proofs.Tests.{decided, is-false, decides-same, decides-and, decides-eqb}
-use Rattle.theory.proofs.Systems.{equal-states, lift-equal}
+use Rattle.theory.proofs.Tests.{decided}
+use Rattle.theory.proofs.Systems.{lift-equal}
 use Rattle.theory.proofs.Runs.{chart-machine}
 use Rattle.theory.proofs.Ways.{one-shortest, shortest-same, shortest-path, no-list, ends-follow, ends-carried, ends-short, shortest-few, one-lowest, lowest-carried}
 use Rattle.theory.proofs.WayTests.{SomeEndsIn, steps-least, steps-none, list-long, lowest-list, shortest-list}
@@ -27,25 +25,28 @@ use Rattle.report.specs.declared.Place.the-variants as place
 use Rattle.report.specs.declared.Stage.{Stage}
 use Rattle.report.specs.declared.Stage.the-variants as stage
 use Rattle.report.specs.declared.Way.{Way}
-use Rattle.report.specs.declared.Way.the-variants.{Length, Refused, FollowerSet, NoWay}
+use Rattle.report.specs.declared.Way.the-variants.{Length, Refused, NoWay}
 use Rattle.bits.specs.Bits.{Bytes}
 use Rattle.bits.specs.declared.sets.Set.{Set}
-use Rattle.bits.specs.Sets.{Has, Empty}
+use Rattle.bits.specs.Sets.{Has}
 use Rattle.chart.specs.Bodies.{verticesOf, startOf, WellFormed}
 use Rattle.chart.specs.Checks.{checkOf}
-use Rattle.chart.proofs.Checks.{well-formed, passes, check-20, check-21}
-use Rattle.chart.proofs.Refusals.{refused-cases}
+use Rattle.chart.specs.Systems.{systemOf, machineOf}
+use Rattle.chart.proofs.Checks.{well-formed, passes}
+use Rattle.chart.proofs.Refusals.{chart-refused}
 use Rattle.chart.proofs.Relations.{acts-member}
-use Rattle.follower.specs.States.{membersOf, machineOf, followedAs}
-use Rattle.follower.specs.FollowerAnswers.{chartOf, StateBytes, InState, SetPasses}
-use Rattle.follower.specs.Ways.{eventsToEnd, shortestList, stateTest, wayOf, wayLeft, bytesWith}
-use Rattle.follower.specs.WayAnswers.{eventAnswers, afterEvents, EndsAfter, ShortestWay, OnlyTaken, NoEnd, StatePasses, WayAnswer, other-header, faulty-at, no-state, no-way, too-short, written}
+use Rattle.follower.specs.declared.Follower.{Follower}
+use Rattle.follower.specs.States.{stateSize, stateIn, InState, membersOf}
+use Rattle.follower.specs.Calls.{stateStage, followedAs}
+use Rattle.follower.specs.Ways.{eventsToEnd, shortestList, bytesStage, wayOf, wayLeft, bytesWith}
+use Rattle.follower.specs.WayAnswers.{eventAnswers, afterEvents, EndsAfter, ShortestWay, OnlyTaken, NoEnd, StatePasses, WayAnswer, other-chart, no-state, no-way, too-short, written}
 use Rattle.follower.specs.Layers as layers
-use Rattle.follower.specs.Layers.{actsChart, SomeEnds, WayFrom}
+use Rattle.follower.specs.Layers.{SomeEnds, WayFrom}
+use Rattle.follower.specs.Parts.{Same}
 use Rattle.follower.proofs.Bytes.{members-are}
-use Rattle.follower.proofs.Calls.{tests-set}
-use Rattle.follower.proofs.Lists.{lent-run}
-use Rattle.follower.proofs.Finds.{Same, move-acts, set-tested}
+use Rattle.follower.proofs.Calls.{formed-in, tests-set, state-ready, state-unready}
+use Rattle.follower.proofs.Lists.{Holding, RunRuled, lent-run}
+use Rattle.follower.proofs.Finds.{move-acts}
 
 -- the answer x and the lent bytes t are what is handed back and left
 abbrev pub WayGives : (b s out : List ℕ) → Way → List ℕ → Type 0
@@ -59,42 +60,54 @@ given (p, q) h = rw (p, q) h
 pub both-sym : {A B : Type 0} {x y : A} {u v : B} → (x ≡ y) × (u ≡ v) → (y ≡ x) × (v ≡ u)
 both-sym (p, q) = (sym p, sym q)
 
--- THE TEST of 53 decides what 53 asks
-state-tested : (b s : List ℕ) → WellFormed b → Decides (stateTest b s) (StatePasses b s)
-state-tested b s W = decides-same (
-  (λ (l, p). record { chart = W; sixteen = l; set = p }),
-  (λ P. (P .sixteen, P .set)),
-)
-    (decides-and (decides-eqb (length s) 16) (tests-set b s))
+-- THE STAGE of 53: bytes that hold a state that is ready pass, and others don't
+bytes-ready : {b s : List ℕ} → StatePasses b s → bytesStage b s ≡ stage.Passed
+bytes-ready {b} {s} P = rw (eq-eqb (length s) stateSize (P .long)) (state-ready (P .set))
+
+bytes-unready : {b s : List ℕ} → WellFormed b → ¬ StatePasses b s → bytesStage b s ≡ stage.Refused place.FollowerSet
+bytes-unready {b} {s} W n =
+    by-cases (ℕ-discrete (length s) stateSize)
+    (λ l. rw (eq-eqb (length s) stateSize l) (state-unready (λ p. n (record { chart = W; long = l; set = p }))))
+    (λ l. rw (ne-eqb (length s) stateSize l) refl)
+
+passes? : {b : List ℕ} (s : List ℕ) → WellFormed b → Dec (StatePasses b s)
+passes? {b} s W =
+    by-cases (ℕ-discrete (length s) stateSize)
+    (λ l. by-cases (decided (tests-set b (stateIn s)))
+    (λ p. yes (record { chart = W; long = l; set = p })) (λ n. no (λ P. n (P .set))))
+    (λ l. no (λ P. l (P .long)))
 
 -- STATES THAT PASS
 module _ {b s : List ℕ} (B : Bytes b) (D : Bytes s) (P : StatePasses b s) where
   abbrev C : System
-  C = chartOf b
+  C = systemOf b
 
   abbrev M : Machine
   M = machineOf b
 
-  state : StateBytes s
-  state = record { sixteen = P .sixteen; bytes = D }
+  abbrev f : Follower
+  f = stateIn s
+
+  holds : Holding (P .chart) s
+  holds = record { long = P .long; formed = formed-in D (P .long) }
 
   -- by the follower's own events
   follows : (xs : List ℕ) → (Q : StateSet C) × (rs : List Answer)
-      × Follows eventRule C (InState s) tt (map event xs) rs Q tt × (EndsAfter b s xs ↔ HoldsEnd C Q)
+      × Follows eventRule C (InState f) tt (map event xs) rs Q tt × (EndsAfter b s xs ↔ HoldsEnd C Q)
   follows xs =
-      let R = lent-run (P .chart) s state (P .set) (map event xs) in (
-        InState (afterEvents b s xs),
+      let R = lent-run (P .chart) s holds (P .set) (map event xs) in (
+        InState (stateIn (afterEvents b s xs)),
         R .answers,
         R .follows,
-        ((λ h. (0, h, refl)), (λ (x, h, e). subst (InState (afterEvents b s xs)) e h)),
+        ((λ h. (0, h, refl)), (λ (x, h, e). subst (InState (stateIn (afterEvents b s xs))) e h)),
       )
 
   -- by paths in the chart, and in its machine
-  by-paths : (xs : List ℕ) → ShortestWay b s xs ↔ Shortest (EndsFrom C (InState s)) xs
+  by-paths : (xs : List ℕ) → ShortestWay b s xs ↔ Shortest (EndsFrom C (InState f)) xs
   by-paths = shortest-path C follows
 
-  carried : (xs : List ℕ) → EndsFrom (system M) (MembersOf M (membersOf s)) xs ↔ EndsFrom C (InState s) xs
-  carried = ends-carried (chart-machine _ _) (lift-equal (members-are s))
+  carried : (xs : List ℕ) → EndsFrom (system M) (MembersOf M (membersOf f)) xs ↔ EndsFrom C (InState f) xs
+  carried = ends-carried (chart-machine _ _) (lift-equal (members-are f))
 
   target-low : (u a w : ℕ) → C .Step u a w → w < verticesOf b
   target-low u a w m =
@@ -108,17 +121,17 @@ module _ {b s : List ℕ} (B : Bytes b) (D : Bytes s) (P : StatePasses b s) wher
   pub list-found : eventsToEnd b s < verticesOf b → ShortestWay b s (shortestList b s)
   unfolding eventsToEnd shortestList
   list-found h =
-      by-paths _ .1 (shortest-same carried _ .0 (shortest-list M action-byte (verticesOf b) (membersOf s) h))
+      by-paths _ .1 (shortest-same carried _ .0 (shortest-list M action-byte (verticesOf b) (membersOf (stateIn s)) h))
 
   pub none-found : verticesOf b ≤ eventsToEnd b s → NoEnd b s
   unfolding eventsToEnd
   none-found h = no-list C follows .0 none
     where
-      none : (xs : List ℕ) → ¬ EndsFrom C (InState s) xs
+      none : (xs : List ℕ) → ¬ EndsFrom C (InState f) xs
       none xs (x, i, e) =
           let (ys, l, f) = ends-short (startOf b) target-low (length xs) (le-refl _) (P .set .below x i) e in
           let (y, m, g) = carried ys .1 (x, i, f) in
-          steps-none M (verticesOf b) (membersOf s) h (length ys) l (y, m, (ys, refl, g))
+          steps-none M (verticesOf b) (membersOf (stateIn s)) h (length ys) l (y, m, (ys, refl, g))
 
   pub found-low : {xs : List ℕ} → ShortestWay b s xs → eventsToEnd b s < verticesOf b
   found-low {xs} S =
@@ -135,7 +148,7 @@ module _ {b s : List ℕ} (B : Bytes b) (D : Bytes s) (P : StatePasses b s) wher
 
   length-found : {xs : List ℕ} → ShortestWay b s xs → length xs ≡ eventsToEnd b s
   unfolding shortestList
-  length-found S = ap length (found-one S) ∙ list-long M (eventsToEnd b s) (membersOf s)
+  length-found S = ap length (found-one S) ∙ list-long M (eventsToEnd b s) (membersOf (stateIn s))
 
   -- A SHORTEST LIST has fewer events than there are vertices, and all of them are taken
   pub way-few : {xs : List ℕ} → ShortestWay b s xs → length xs < verticesOf b
@@ -143,14 +156,14 @@ module _ {b s : List ℕ} (B : Bytes b) (D : Bytes s) (P : StatePasses b s) wher
 
   pub way-taken : {xs : List ℕ} → ShortestWay b s xs → OnlyTaken (eventAnswers b s xs)
   way-taken {xs} S y m =
-      let R = lent-run (P .chart) s state (P .set) (map event xs) in
+      let R = lent-run (P .chart) s holds (P .set) (map event xs) in
       let (x, i, q) = Memᴰ·of-map followedAs (R .answers) (rw (R .written) at m) in
       let (w, e) = ends-follow C xs (R .follows) (by-paths xs .0 S .holds) .1 x i in
       (w .end, length (w .offered), sym q ∙ ap followedAs e)
 
   -- 20, 21 AND 53 PASSED: 55, 54, and the list
-  passed-53 : stateTest b s ≡ true
-  passed-53 = state-tested b s (P .chart) .1 P
+  passed-53 : bytesStage b s ≡ stage.Passed
+  passed-53 = bytes-ready P
 
   module _ (out : List ℕ) where
     pub way-none : verticesOf b ≤ eventsToEnd b s → WayGives b s out NoWay out
@@ -197,29 +210,30 @@ module _ (b s out : List ℕ) where
   unfolding wayOf wayLeft
   way-refused e = rw e (refl, refl)
 
-  chart-answer : (p : Place) → checkOf b ≡ stage.Refused p → WayAnswer b s out (Refused p) out
-  chart-answer = refused-cases b (λ p. WayAnswer b s out (Refused p) out) other-header (λ i. faulty-at)
-
   -- 53
-  pub way-no-state : WellFormed b → ¬ StatePasses b s → WayGives b s out FollowerSet out
+  pub way-unready : {p : Place} → checkOf b ≡ stage.Passed → length s ≡ stateSize → stateStage b (stateIn s) ≡ stage.Refused p
+      → WayGives b s out (Refused p) out
   unfolding wayOf wayLeft
-  way-no-state W n = rw (passes b W, is-false (state-tested b s W) n) (refl, refl)
+  way-unready e l r = rw (e, eq-eqb (length s) stateSize l, r) (refl, refl)
+
+  pub way-no-state : WellFormed b → ¬ StatePasses b s → WayGives b s out (Refused place.FollowerSet) out
+  unfolding wayOf wayLeft
+  way-no-state W n = rw (passes b W, bytes-unready W n) (refl, refl)
 
 module _ (b s out : List ℕ) (B : Bytes b) (D : Bytes s) where
   way-answer : WayAnswer b s out (wayOf b s (length out)) (wayLeft b s out)
   way-answer = go (checkOf b) refl
     where
       go : (x : Stage) → checkOf b ≡ x → WayAnswer b s out (wayOf b s (length out)) (wayLeft b s out)
-      go (stage.Refused p) e = given (way-refused b s out e) (chart-answer b s out p e)
+      go (stage.Refused p) e = given (way-refused b s out e) (other-chart (chart-refused b p .0 e))
       go stage.Passed e =
           let W = well-formed b e in
-          by-cases (decided (state-tested b s W))
+          by-cases (passes? s W)
           (λ P. passed-answer B D P out)
           (λ n. given (way-no-state b s out W n) (no-state W n))
 
   answer-way : {x : Way} {t : List ℕ} → WayAnswer b s out x t → WayGives b s out x t
-  answer-way (other-header h) = way-refused b s out (check-20 b .1 h)
-  answer-way (faulty-at h f) = way-refused b s out (check-21 b _ .1 (h, f))
+  answer-way (other-chart r) = way-refused b s out (chart-refused b _ .1 r)
   answer-way (no-state W n) = way-no-state b s out W n
   answer-way (no-way P n) = way-none B D P out (unreached B D P n)
   answer-way (too-short P S l) = list-short B D P out S l
@@ -229,18 +243,13 @@ module _ (b s out : List ℕ) (B : Bytes b) (D : Bytes s) where
   pub way-says : (x : Way) (t : List ℕ) → WayGives b s out x t ↔ WayAnswer b s out x t
   way-says x t = ((λ (p, q). rw (p, q) at way-answer), answer-way)
 
--- what the code asks of the set is 53
-pub set-passes : (b s : List ℕ) {set : Set} → Same set (membersOf s)
-    → SetPasses b s ↔ ((¬ Empty set) × ((w : ℕ) → Has set w → w < verticesOf b))
-set-passes b s S = Iff·trans (Iff·symm (tests-set b s)) (set-tested b s S)
-
 -- THE CODE'S ANSWER, of a set that has the state's vertices
-module _ {b s : List ℕ} (B : Bytes b) (D : Bytes s) (P : StatePasses b s) {set : Set} (S : Same set (membersOf s)) where
-  listed : (xs : List ℕ) → EndsFrom (system (machineOf b)) (MembersOf (machineOf b) (membersOf s)) xs ↔ EndsFrom (actsChart b) (Has set) xs
-  listed =
-      ends-carried (equal-states (λ v. decides-eqb v 0) (λ u a w. move-acts b (P .chart) B u a w)) (lift-equal (λ v. Iff·symm (S v)))
+module _ {b s : List ℕ} (B : Bytes b) (D : Bytes s) (P : StatePasses b s) {set : Set} (S : Same set (membersOf (stateIn s))) where
+  listed : (xs : List ℕ) → EndsFrom (system (machineOf b)) (MembersOf (machineOf b) (membersOf (stateIn s))) xs
+      ↔ EndsFrom (systemOf b) (Has set) xs
+  listed = ends-carried (chart-machine _ _) (lift-equal (λ v. Iff·symm (S v)))
 
-  some-listed : (n : ℕ) → SomeEndsIn (machineOf b) (membersOf s) n ↔ SomeEnds b set n
+  some-listed : (n : ℕ) → SomeEndsIn (machineOf b) (membersOf (stateIn s)) n ↔ SomeEnds b set n
   some-listed n = (
     (λ (x, m, (xs, l, e)). let (y, h, f) = listed xs .0 (x, m, e) in (y, h, (xs, l, f))),
     (λ (x, m, (xs, l, e)). let (y, h, f) = listed xs .1 (x, m, e) in (y, h, (xs, l, f))),
@@ -250,21 +259,21 @@ module _ {b s : List ℕ} (B : Bytes b) (D : Bytes s) (P : StatePasses b s) {set
   unfolding eventsToEnd
   same-number {d} l L =
       by-cases (decLt (eventsToEnd b s) (verticesOf b))
-      (λ h. let K = steps-least (machineOf b) (verticesOf b) (membersOf s) h in
+      (λ h. let K = steps-least (machineOf b) (verticesOf b) (membersOf (stateIn s)) h in
       least-one (record { holds = some-listed _ .0 (K .holds); lowest = λ k g e. K .lowest k g (some-listed k .1 e) }) L)
-      (λ h. absurd (steps-none (machineOf b) (verticesOf b) (membersOf s) (omega arith) d l (some-listed d .1 (L .holds))))
+      (λ h. absurd (steps-none (machineOf b) (verticesOf b) (membersOf (stateIn s)) (omega arith) d l (some-listed d .1 (L .holds))))
 
-  same-list : {d : ℕ} {xs : List ℕ} → eventsToEnd b s ≡ d → Least (SomeEnds b set) d → LowestOf (actsChart b) d (Has set) xs
+  same-list : {d : ℕ} {xs : List ℕ} → eventsToEnd b s ≡ d → Least (SomeEnds b set) d → LowestOf (systemOf b) d (Has set) xs
       → xs ≡ shortestList b s
   unfolding shortestList
   same-list {d} e L K =
-      one-lowest (actsChart b) K
-      (rw e (lowest-carried listed (lowest-list (machineOf b) (action-byte B D P) d (membersOf s) (some-listed d .1 (L .holds)))))
+      one-lowest (systemOf b) K
+      (rw e (lowest-carried listed (lowest-list (machineOf b) (action-byte B D P) d (membersOf (stateIn s)) (some-listed d .1 (L .holds)))))
 
   pub found-way : {out t : List ℕ} {x : Way} → WayFrom b set out x t → WayGives b s out x t
   unfolding eventsToEnd
   found-way {out} (layers.no-way f) = way-none B D P out (by-cases (decLt (eventsToEnd b s) (verticesOf b))
-      (λ h. absurd (f _ h (some-listed _ .0 (steps-least (machineOf b) (verticesOf b) (membersOf s) h .holds))))
+      (λ h. absurd (f _ h (some-listed _ .0 (steps-least (machineOf b) (verticesOf b) (membersOf (stateIn s)) h .holds))))
       (λ h. omega arith))
   found-way {out} (layers.too-short {d} l L n) =
       let e = same-number l L in

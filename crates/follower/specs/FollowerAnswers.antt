@@ -1,71 +1,72 @@
--- What document 01 says of each answer to an event or a restart, and of the state's bytes after it.
+-- What document 01 says of each answer to an event or a restart, and of the state after it.
 use Prim.Native.Nat.{ℕ, _<_}
 use mathlib.Core.Path.{_≡_}
 use mathlib.Core.Logic.{_≢_, _↔_}
-use mathlib.Core.Bool.{true}
-use mathlib.Core.List.{List}
+use mathlib.Core.Bool.{Bool}
+use mathlib.Core.List.{List, List·Memᴰ}
+use lib.Dec.{ltb}
 use lib.ListN.{length}
-use Rattle.theory.specs.Least.{Least}
-use Rattle.theory.specs.Systems.{System}
-use Rattle.theory.specs.Transitions.{chart}
-use Rattle.theory.specs.Followers.{Responds}
-use Rattle.theory.specs.Events.{Call, restart, event, Answer, eventRule}
+use Rattle.theory.specs.Ascending.{Ascending}
+use Rattle.theory.specs.Tests.{Decides}
+use Rattle.theory.specs.Followers.{Next, Offered}
+use Rattle.theory.specs.Events.{Call, restart, event}
 use Rattle.report.specs.declared.Followed.{Followed}
-use Rattle.report.specs.declared.Followed.the-variants.{Refused, FollowerSet}
+use Rattle.report.specs.declared.Followed.the-variants.{Taken, NotPossible, Refused}
+use Rattle.report.specs.declared.Place.{Place}
 use Rattle.report.specs.declared.Place.the-variants as place
-use Rattle.bits.specs.Bits.{Bytes, hasBit}
-use Rattle.chart.specs.Bodies.{verticesOf, startOf, HeaderFits, Faulty, WellFormed}
-use Rattle.chart.specs.Steps.{transitionsOf}
-use Rattle.follower.specs.declared.Moved.{Moved}
-use Rattle.follower.specs.States.{followedAs}
-
--- the chart of a body
-abbrev pub chartOf : List ℕ → System
-chartOf b = chart (startOf b) (transitionsOf b)
-
--- STATES: sixteen bytes
-pub record StateBytes (s : List ℕ) : Type 0 where
-  pub sixteen : length s ≡ 16
-  pub bytes : Bytes s
-
--- v is in the set
-abbrev pub InState : List ℕ → ℕ → Type 0
-InState s v = (v < 128) × (hasBit s v ≡ true)
+use Rattle.chart.specs.Bodies.{verticesOf, startOf, WellFormed}
+use Rattle.chart.specs.Refusals.{ChartRefused}
+use Rattle.chart.specs.Systems.{systemOf}
+use Rattle.follower.specs.declared.Follower.{Follower}
+use Rattle.follower.specs.States.{stateSize, bytesIn, stateIn, Formed, InState}
 
 -- a fresh start: the start alone
-pub record FreshStart (b s : List ℕ) : Type 0 where
-  pub state : StateBytes s
-  pub alone : (v : ℕ) → InState s v ↔ (v ≡ startOf b)
+pub record FreshStart (b : List ℕ) (f : Follower) : Type 0 where
+  pub formed : Formed f
+  pub alone : (v : ℕ) → InState f v ↔ (v ≡ startOf b)
 
 -- 53 passes: some vertex is in the set, and none of V or above
-pub record SetPasses (b s : List ℕ) : Type 0 where
-  pub some : (v : ℕ) × InState s v
-  pub below : (v : ℕ) → InState s v → v < verticesOf b
+pub record SetPasses (b : List ℕ) (f : Follower) : Type 0 where
+  pub some : (v : ℕ) × InState f v
+  pub below : (v : ℕ) → InState f v → v < verticesOf b
 
--- 53 is asked of an event only
-abbrev pub Ready : List ℕ → List ℕ → Call → Type 0
-Ready b s restart = Unit {0}
-Ready b s (event a) = SetPasses b s
+-- an action leads from some vertex of the set to w; it has a target
+abbrev pub Target : List ℕ → Follower → ℕ → ℕ → Type 0
+Target b f a w = Next (systemOf b) (InState f) a w
 
--- the answer x and the bytes t are what is handed back or left
-abbrev pub Gives : Moved → Followed → List ℕ → Type 0
-Gives m x t = (m .answer ≡ x) × (m .follower .set ≡ t)
+abbrev pub Possible : List ℕ → Follower → ℕ → Type 0
+Possible b f a = Offered (systemOf b) (InState f) a
 
--- EACH ANSWER, to a call on a state, with the state's bytes after it; a refusal leaves them as they came
-pub data CallAnswer (b s : List ℕ) (c : Call) : Followed → List ℕ → Type 0 where
-  -- 20
-  other-header : ¬ HeaderFits b → CallAnswer b s c (Refused place.ChartHeader) s
-  -- 21
-  faulty-at : {p : ℕ} → HeaderFits b → Least (Faulty b) p → CallAnswer b s c (Refused (place.Transition p)) s
-  -- 53
-  no-set : WellFormed b → ¬ Ready b s c → CallAnswer b s c FollowerSet s
-  -- taken or not possible, whether the end is in the set and how many actions are offered, by the rule over the chart
-  ruled : {x : Answer} {t : List ℕ} → WellFormed b → Ready b s c → StateBytes t
-      → Responds eventRule (chartOf b) (InState s) tt c x (InState t) tt → CallAnswer b s c (followedAs x) t
+-- whether the end is in the set, and the number of different actions that its vertices offer
+pub record Shown (b : List ℕ) (f : Follower) (end : Bool) (n : ℕ) : Type 0 where
+  pub holds-end : Decides end (InState f 0)
+  pub actions : List ℕ
+  pub ascending : Ascending ltb actions
+  pub offered : (a : ℕ) → List·Memᴰ a actions ↔ Possible b f a
+  pub number : length actions ≡ n
 
--- and over lent bytes, whatever their number: 53 for another number than sixteen, after 20 and 21
+-- EACH ANSWER to a call on a state, with the state after it; a refusal leaves it as it came
+pub data CallAnswer (b : List ℕ) (f : Follower) : Call → Followed → Follower → Type 0 where
+  -- 20, 21
+  other-chart : {c : Call} {p : Place} → ChartRefused b p → CallAnswer b f c (Refused p) f
+  -- 53, of an event
+  no-set : {a : ℕ} → WellFormed b → ¬ SetPasses b f → CallAnswer b f (event a) (Refused place.FollowerSet) f
+  -- a restart gives the start alone and is taken
+  restarts : {g : Follower} {end : Bool} {n : ℕ} → WellFormed b → FreshStart b g → Shown b g end n
+      → CallAnswer b f restart (Taken end n) g
+  -- an event with a target from some member is taken, and the set becomes all such targets
+  goes : {a : ℕ} {g : Follower} {end : Bool} {n : ℕ} → WellFormed b → SetPasses b f → Possible b f a
+      → Formed g → ((w : ℕ) → InState g w ↔ Target b f a w) → Shown b g end n → CallAnswer b f (event a) (Taken end n) g
+  -- otherwise it is not possible, and the state is unchanged
+  stays : {a : ℕ} {end : Bool} {n : ℕ} → WellFormed b → SetPasses b f → ¬ Possible b f a → Shown b f end n
+      → CallAnswer b f (event a) (NotPossible end n) f
+
+-- EACH ANSWER to a call on lent bytes, whatever their number, with the bytes after it
 pub data LentAnswer (b s : List ℕ) (c : Call) : Followed → List ℕ → Type 0 where
-  other-chart : {x : Followed} {t : List ℕ} → ¬ WellFormed b → CallAnswer b s c x t → LentAnswer b s c x t
-  other-length : WellFormed b → length s ≢ 16 → LentAnswer b s c FollowerSet s
-  sixteen-bytes : {x : Followed} {t : List ℕ} → WellFormed b → length s ≡ 16 → CallAnswer b s c x t
-      → LentAnswer b s c x t
+  -- 20, 21
+  other-chart : {p : Place} → ChartRefused b p → LentAnswer b s c (Refused p) s
+  -- 53, also of a restart: another number of bytes than the state's
+  other-length : WellFormed b → length s ≢ stateSize → LentAnswer b s c (Refused place.FollowerSet) s
+  -- as to a call on the state that they hold
+  holds-state : {x : Followed} {g : Follower} → length s ≡ stateSize → CallAnswer b (stateIn s) c x g
+      → LentAnswer b s c x (bytesIn g)

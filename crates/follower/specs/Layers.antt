@@ -6,8 +6,6 @@ use mathlib.Core.Logic.{_↔_}
 use mathlib.Core.List.{List, _++_}
 use lib.ListN.{length, drop}
 use Rattle.theory.specs.Least.{Least}
-use Rattle.theory.specs.Systems.{System}
-use Rattle.theory.specs.Transitions.{chartBy}
 use Rattle.theory.specs.Ways.{EndsIn, FirstIn, LowestOf}
 use Rattle.report.specs.declared.Place.the-variants as place
 use Rattle.report.specs.declared.Way.{Way}
@@ -15,17 +13,14 @@ use Rattle.report.specs.declared.Way.the-variants.{Length, Refused, NoWay}
 use Rattle.bits.specs.declared.sets.Set.{Set}
 use Rattle.bits.specs.Sets.{Has, Members}
 use Rattle.bits.specs.Tables.{rowOf, HasRow}
-use Rattle.chart.specs.Bodies.{verticesOf, startOf}
+use Rattle.chart.specs.Bodies.{verticesOf}
 use Rattle.chart.specs.Steps.{ActsOf}
+use Rattle.chart.specs.Systems.{systemOf}
 use Rattle.chart.specs.Images.{Image, LeadsTo}
-
--- the chart of a body, by the index of its transitions
-abbrev pub actsChart : List ℕ → System
-actsChart b = chartBy (startOf b) (ActsOf b)
 
 -- from some vertex of the set n steps lead to the end
 abbrev pub SomeEnds : List ℕ → Set → ℕ → Type 0
-SomeEnds b set n = (x : ℕ) × Has set x × EndsIn (actsChart b) n x
+SomeEnds b set n = (x : ℕ) × Has set x × EndsIn (systemOf b) n x
 
 -- THE TARGETS of the vertices of a layer, together, and each vertex's in its set of the table; the other sets stay
 pub record ReadRows (b : List ℕ) (layer : Set) (before : List ℕ) (r : Set) (after : List ℕ) : Type 0 where
@@ -41,7 +36,7 @@ pub record Layered (b : List ℕ) (set : Set) (d : ℕ) (layers rows : List ℕ)
   pub rows-long : length rows ≡ 256
   pub sooner : (k : ℕ) → k < d → ¬ SomeEnds b set k
   pub nearest : d < verticesOf b → Least (SomeEnds b set) d
-  pub layer : d < verticesOf b → (k : ℕ) → k ≤ d → Members (FirstIn (actsChart b) (Has set) k) (rowOf layers k)
+  pub layer : d < verticesOf b → (k : ℕ) → k ≤ d → Members (FirstIn (systemOf b) (Has set) k) (rowOf layers k)
   pub row : d < verticesOf b → (k u : ℕ) → k < d → HasRow layers k u → Members (LeadsTo b u) (rowOf rows u)
 
 -- the vertices of a layer whose row has a vertex of the next
@@ -58,8 +53,8 @@ pub record Narrowed (rows : List ℕ) (d : ℕ) (before after : List ℕ) : Type
 pub record Leads (b : List ℕ) (d : ℕ) (layers : List ℕ) : Type 0 where
   pub long : length layers ≡ 256
   pub some : (x : ℕ) × HasRow layers 0 x
-  pub ends : (k x : ℕ) → k ≤ d → HasRow layers k x → EndsIn (actsChart b) (d - k) x
-  pub onward : (k u a w : ℕ) → k < d → HasRow layers k u → ActsOf b u a w → EndsIn (actsChart b) (d - suc k) w
+  pub ends : (k x : ℕ) → k ≤ d → HasRow layers k x → EndsIn (systemOf b) (d - k) x
+  pub onward : (k u a w : ℕ) → k < d → HasRow layers k u → ActsOf b u a w → EndsIn (systemOf b) (d - suc k) w
       → HasRow layers (suc k) w
 
 -- an action leads from a vertex of one set to y, which is in another
@@ -69,7 +64,7 @@ OnwardBy b near aim a y = Image b near a y × Has aim y
 -- THE LIST: the lowest of d actions from the set to the end is written to the beginning, and the bytes past it are kept
 pub record Writes (b : List ℕ) (set : Set) (d : ℕ) (before after : List ℕ) : Type 0 where
   pub list : List ℕ
-  pub lowest : LowestOf (actsChart b) d (Has set) list
+  pub lowest : LowestOf (systemOf b) d (Has set) list
   pub left : after ≡ list ++ drop d before
 
 -- 55 and 54 of a set that fits, and the list

@@ -3,38 +3,40 @@
 use Prim.Native.Nat.{ℕ}
 use mathlib.Core.Path.{_≡_}
 use mathlib.Core.List.{List, map}
-use Rattle.theory.specs.Followers.{Answers}
+use Rattle.theory.specs.Followers.{Responds, Follows, Answers}
 use Rattle.theory.specs.Events.{Call, restart, event, Answer, eventRule}
 use Rattle.report.specs.declared.Followed.{Followed}
+use Rattle.chart.specs.Systems.{systemOf}
 use Rattle.follower.specs.declared.Follower.{Follower}
 use Rattle.follower.specs.declared.Moved.{Moved}
-use Rattle.follower.specs.States.{followedAs, restartOf, restartFrom, eventOf, restartLent, eventLent}
-use Rattle.follower.specs.FollowerAnswers.{chartOf}
+use Rattle.follower.specs.States.{InState, keptIn, noState}
+use Rattle.follower.specs.Calls.{followedAs, calledOn}
 
--- one call on a state that is lent itself
-abbrev pub called : List ℕ → Follower → Call → Moved
-called b f restart = restartFrom b f
-called b f (event a) = eventOf b f a
-
--- BY VALUE: a restart takes no state
-abbrev pub byValue : List ℕ → Follower → Call → Followed × Follower
-byValue b f restart = (restartOf b .answer, restartOf b .follower)
-byValue b f (event a) = (eventOf b f a .answer, eventOf b f a .follower)
+abbrev pub answerAndState : Moved → Followed × Follower
+answerAndState m = (m .answer, m .follower)
 
 -- IN PLACE: the state itself is lent
 abbrev pub inPlace : List ℕ → Follower → Call → Followed × Follower
-inPlace b f c = (called b f c .answer, called b f c .follower)
+inPlace b f c = answerAndState (calledOn b f c)
 
--- LENT BYTES
-abbrev pub lentCalled : List ℕ → List ℕ → Call → Moved
-lentCalled b s restart = restartLent b s
-lentCalled b s (event a) = eventLent b s a
+-- BY VALUE: a restart takes no state
+abbrev pub byValue : List ℕ → Follower → Call → Followed × Follower
+byValue b f restart = answerAndState (calledOn b noState restart)
+byValue b f (event a) = answerAndState (calledOn b f (event a))
 
-abbrev pub lent : List ℕ → List ℕ → Call → Followed × List ℕ
-lent b s c = (lentCalled b s c .answer, lentCalled b s c .follower .set)
+-- THE RULE over the chart of a body: one call on a state, with what is kept beside its set; a list of calls; the answers from
+-- a fresh start
+abbrev pub RuleResponds : List ℕ → Follower → Call → Answer → Follower → Type 0
+RuleResponds b f c x g = Responds eventRule (systemOf b) (InState f) (keptIn f) c x (InState g) (keptIn g)
+
+abbrev pub RuleFollows : List ℕ → Follower → List Call → List Answer → Follower → Type 1
+RuleFollows b f cs xs g = Follows eventRule (systemOf b) (InState f) (keptIn f) cs xs (InState g) (keptIn g)
+
+abbrev pub RuleAnswers : List ℕ → List Call → List Answer → Type 1
+RuleAnswers b cs xs = Answers eventRule (systemOf b) tt cs xs
 
 -- the answers to a list of calls are the rule's over the chart of the body, from a fresh start
 pub record ByRule (b : List ℕ) (cs : List Call) (ys : List Followed) : Type 1 where
   pub answers : List Answer
   pub written : ys ≡ map followedAs answers
-  pub rule : Answers eventRule (chartOf b) tt cs answers
+  pub rule : RuleAnswers b cs answers

@@ -5,30 +5,32 @@ use mathlib.Core.Path.{_≡_}
 use mathlib.Core.Bool.{Bool}
 use mathlib.Core.List.{List, map, List·Memᴰ}
 use lib.ListN.{length}
-use Rattle.theory.specs.Least.{Least}
 use Rattle.theory.specs.Events.{event}
 use Rattle.theory.specs.Runs.{run, runLeaves}
 use Rattle.theory.specs.Ways.{Shortest}
 use Rattle.report.specs.declared.Followed.{Followed}
 use Rattle.report.specs.declared.Followed.the-variants.{Taken}
+use Rattle.report.specs.declared.Place.{Place}
 use Rattle.report.specs.declared.Place.the-variants as place
 use Rattle.report.specs.declared.Way.{Way}
-use Rattle.report.specs.declared.Way.the-variants.{Length, Refused, FollowerSet, NoWay}
-use Rattle.chart.specs.Bodies.{HeaderFits, Faulty, WellFormed}
-use Rattle.follower.specs.FollowerAnswers.{InState, SetPasses}
-use Rattle.follower.specs.Lists.{lent}
+use Rattle.report.specs.declared.Way.the-variants.{Length, Refused, NoWay}
+use Rattle.chart.specs.Bodies.{WellFormed}
+use Rattle.chart.specs.Refusals.{ChartRefused}
+use Rattle.follower.specs.States.{stateSize, stateIn, InState}
+use Rattle.follower.specs.FollowerAnswers.{SetPasses}
+use Rattle.follower.specs.Calls.{lentOn}
 use Rattle.follower.specs.Ways.{bytesWith}
 
 -- EVENTS from a state, each on the bytes that the one before left: the answers, and the bytes after them
 abbrev pub eventAnswers : (b s xs : List ℕ) → List Followed
-eventAnswers b s xs = run (lent b) (map event xs) s
+eventAnswers b s xs = run (lentOn b) (map event xs) s
 
 abbrev pub afterEvents : (b s xs : List ℕ) → List ℕ
-afterEvents b s xs = runLeaves (lent b) (map event xs) s
+afterEvents b s xs = runLeaves (lentOn b) (map event xs) s
 
 -- after these events the end is in the set
 abbrev pub EndsAfter : (b s xs : List ℕ) → Type 0
-EndsAfter b s xs = InState (afterEvents b s xs) 0
+EndsAfter b s xs = InState (stateIn (afterEvents b s xs)) 0
 
 -- THE SHORTEST WAY from a state: after it the end is in the set, no shorter list does it, and of the lists of its length that
 -- do none is lower at the first place where they differ
@@ -46,17 +48,15 @@ NoEnd b s = (xs : List ℕ) → ¬ EndsAfter b s xs
 -- 20, 21 and 53 pass
 pub record StatePasses (b s : List ℕ) : Type 0 where
   pub chart : WellFormed b
-  pub sixteen : length s ≡ 16
-  pub set : SetPasses b s
+  pub long : length s ≡ stateSize
+  pub set : SetPasses b (stateIn s)
 
 -- EACH ANSWER, with the lent bytes after it; a refusal leaves them as they were
 pub data WayAnswer (b s out : List ℕ) : Way → List ℕ → Type 0 where
-  -- 20
-  other-header : ¬ HeaderFits b → WayAnswer b s out (Refused place.ChartHeader) out
-  -- 21
-  faulty-at : {p : ℕ} → HeaderFits b → Least (Faulty b) p → WayAnswer b s out (Refused (place.Transition p)) out
+  -- 20, 21
+  other-chart : {p : Place} → ChartRefused b p → WayAnswer b s out (Refused p) out
   -- 53
-  no-state : WellFormed b → ¬ StatePasses b s → WayAnswer b s out FollowerSet out
+  no-state : WellFormed b → ¬ StatePasses b s → WayAnswer b s out (Refused place.FollowerSet) out
   -- 55
   no-way : StatePasses b s → NoEnd b s → WayAnswer b s out NoWay out
   -- 54, with the bytes needed

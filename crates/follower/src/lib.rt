@@ -10,6 +10,7 @@ use chart::images::count_marks;
 use chart::images::image;
 use chart::images::offered;
 use report::Followed;
+use report::Place;
 use report::Stage;
 use report::Way;
 use ways::way_from;
@@ -18,11 +19,13 @@ ghost use mathlib.Core.Bool.{true};
 ghost use mathlib.Core.Logic.{_↔_};
 ghost use Prim.Native.Nat.{ℕ, _<_};
 ghost use lib.ListN.{length};
+ghost use Rattle.theory.specs.Events.{restart, event};
 ghost use Rattle.bits.specs.Sets.{Has, Empty};
 ghost use Rattle.chart.specs.Checks.{checkOf};
 ghost use Rattle.chart.specs.Leaving.{Begins};
-ghost use Rattle.follower.specs.Parts.{CountOffered};
-ghost use Rattle.follower.specs.States.{eventOf, restartFrom, restartOf, restarted, eventLent, restartLent};
+ghost use Rattle.follower.specs.States.{stateSize, bytesIn, stateIn, membersOf, noState};
+ghost use Rattle.follower.specs.Parts.{Same, SetFits, StepBy, CountOffered, Tells};
+ghost use Rattle.follower.specs.Calls.{ruledOf, calledOn, lentOn, otherLength};
 ghost use Rattle.follower.specs.Ways.{wayOf, wayLeft};
 
 // The state: a set of vertices in sixteen bytes, bits as in a row of a relation.
@@ -36,6 +39,12 @@ pub struct Moved {
     pub follower: Follower,
 }
 
+// What an event makes of a set: whether it is taken, and the set after it.
+pub struct Stepped {
+    pub taken: bool,
+    pub set: Set,
+}
+
 // Whether 53 passes: some vertex is in the set, and none of V or above.
 fn set_fits(set: Set, vertices: usize) -> bool
     ensures { λ r. ⌜ (r ≡ true) ↔ ((¬ Empty set) × ((w : ℕ) → Has set w → w < vertices)) ⌝ }
@@ -47,6 +56,33 @@ fn set_fits(set: Set, vertices: usize) -> bool
     highest.at < vertices
 }
 
+// 53 of a set.
+fn ready(chart: &[u8], set: Set) -> Stage
+    requires { ⌜ checkOf (now chart) ≡ Stage.Passed ⌝ }
+    ensures { λ r. ⌜ (SetFits (now (chart .entry)) set → r ≡ Stage.Passed)
+        × (¬ SetFits (now (chart .entry)) set → r ≡ Stage.Refused Place.FollowerSet) ⌝ }
+{
+    if set_fits(set, byte(chart, 0)) {
+        return Stage::Passed;
+    }
+    Stage::Refused(Place::FollowerSet)
+}
+
+// The step from a set by an action.
+fn step(chart: &[u8], begins: &[usize; 129], set: Set, action: usize) -> Stepped
+    requires { ⌜ (checkOf (now chart) ≡ Stage.Passed) × Begins (now chart) (now begins) ⌝ }
+    ensures { λ r. ⌜ StepBy (now (chart .entry)) set action r ⌝ }
+{
+    let targets = image(chart, begins, set, action);
+    if targets.is_empty() {
+        return Stepped { taken: false, set };
+    }
+    Stepped {
+        taken: true,
+        set: targets,
+    }
+}
+
 // How many different actions the vertices of a set offer.
 fn count_offered(chart: &[u8], begins: &[usize; 129], set: Set) -> usize
     requires { ⌜ (checkOf (now chart) ≡ Stage.Passed) × Begins (now chart) (now begins) ⌝ }
@@ -56,39 +92,59 @@ fn count_offered(chart: &[u8], begins: &[usize; 129], set: Set) -> usize
     count_marks(&marks)
 }
 
+// The answer after a step.
+fn told(chart: &[u8], begins: &[usize; 129], step: Stepped) -> Followed
+    requires { ⌜ (checkOf (now chart) ≡ Stage.Passed) × Begins (now chart) (now begins) ⌝ }
+    ensures { λ r. ⌜ Tells (now (chart .entry)) step r ⌝ }
+{
+    let set = step.set;
+    let end = set.contains(0);
+    let count = count_offered(chart, begins, set);
+    if step.taken {
+        return Followed::Taken(end, count);
+    }
+    Followed::NotPossible(end, count)
+}
+
+// An event where 20, 21 and 53 pass; the set is the state's.
+fn event_from(chart: &[u8], follower: Follower, set: Set, action: u8) -> Moved
+    requires { ⌜ (checkOf (now chart) ≡ Stage.Passed)
+        × Same set (membersOf follower)
+        × SetFits (now chart) set ⌝ }
+    ensures { λ r. ⌜ r ≡ ruledOf (now (chart .entry)) follower (event action) ⌝ }
+{
+    let begins = chart::begins(chart);
+    let step = self::step(chart, &begins, set, action as usize);
+    let answer = told(chart, &begins, step);
+    if !step.taken {
+        return Moved { answer, follower };
+    }
+    let left = set_bytes(step.set);
+    Moved {
+        answer,
+        follower: Follower { set: left },
+    }
+}
+
 // An event over a body that passes 20 and 21.
 fn event_on(chart: &[u8], follower: Follower, action: u8) -> Moved
     requires { ⌜ (checkOf (now chart) ≡ Stage.Passed) × (length (follower .set) ≡ 16) ⌝ }
-    ensures { λ r. ⌜ r ≡ eventOf (now (chart .entry)) follower action ⌝ }
+    ensures { λ r. ⌜ r ≡ calledOn (now (chart .entry)) follower (event action) ⌝ }
 {
     let bytes = follower.set;
     let set = read_set(&bytes, 0);
-    if !set_fits(set, byte(chart, 0)) {
-        return Moved {
-            answer: Followed::FollowerSet,
+    match ready(chart, set) {
+        Stage::Refused(place) => Moved {
+            answer: Followed::Refused(place),
             follower,
-        };
-    }
-    let begins = chart::begins(chart);
-    let targets = image(chart, &begins, set, action as usize);
-    if targets.is_empty() {
-        let count = count_offered(chart, &begins, set);
-        return Moved {
-            answer: Followed::NotPossible(set.contains(0), count),
-            follower,
-        };
-    }
-    let count = count_offered(chart, &begins, targets);
-    let left = set_bytes(targets);
-    Moved {
-        answer: Followed::Taken(targets.contains(0), count),
-        follower: Follower { set: left },
+        },
+        Stage::Passed => event_from(chart, follower, set, action),
     }
 }
 
 // One event. A refusal hands the state back as it came.
 pub fn event(follower: Follower, chart: &[u8], action: u8) -> Moved
-    ensures { λ r. ⌜ r ≡ eventOf (now (chart .entry)) follower action ⌝ }
+    ensures { λ r. ⌜ r ≡ calledOn (now (chart .entry)) follower (event action) ⌝ }
 {
     match chart::check(chart) {
         Stage::Refused(place) => Moved {
@@ -102,21 +158,21 @@ pub fn event(follower: Follower, chart: &[u8], action: u8) -> Moved
 // A restart over a body that passes 20 and 21.
 fn restart_on(chart: &[u8]) -> Moved
     requires { ⌜ checkOf (now chart) ≡ Stage.Passed ⌝ }
-    ensures { λ r. ⌜ r ≡ restarted (now (chart .entry)) ⌝ }
+    ensures { λ r. ⌜ r ≡ ruledOf (now (chart .entry)) noState restart ⌝ }
 {
     let set = Set::empty().with(byte(chart, 1));
     let begins = chart::begins(chart);
-    let count = count_offered(chart, &begins, set);
+    let answer = told(chart, &begins, Stepped { taken: true, set });
     let left = set_bytes(set);
     Moved {
-        answer: Followed::Taken(set.contains(0), count),
+        answer,
         follower: Follower { set: left },
     }
 }
 
 // A restart; a refusal hands back the state that is given.
 fn restart_from(follower: Follower, chart: &[u8]) -> Moved
-    ensures { λ r. ⌜ r ≡ restartFrom (now (chart .entry)) follower ⌝ }
+    ensures { λ r. ⌜ r ≡ calledOn (now (chart .entry)) follower restart ⌝ }
 {
     match chart::check(chart) {
         Stage::Refused(place) => Moved {
@@ -129,15 +185,15 @@ fn restart_from(follower: Follower, chart: &[u8]) -> Moved
 
 // A restart. A refusal hands back the empty set.
 pub fn restart(chart: &[u8]) -> Moved
-    ensures { λ r. ⌜ r ≡ restartOf (now (chart .entry)) ⌝ }
+    ensures { λ r. ⌜ r ≡ calledOn (now (chart .entry)) noState restart ⌝ }
 {
     restart_from(Follower { set: [0u8; 16] }, chart)
 }
 
 // The state that lent bytes hold.
 fn state_of(state: &[u8]) -> Follower
-    requires { ⌜ length (now state) ≡ 16 ⌝ }
-    ensures { λ r. ⌜ r .set ≡ now (state .entry) ⌝ }
+    requires { ⌜ length (now state) ≡ stateSize ⌝ }
+    ensures { λ r. ⌜ r ≡ stateIn (now (state .entry)) ⌝ }
 {
     let mut set = [0u8; 16];
     let mut i: usize = 0;
@@ -150,8 +206,8 @@ fn state_of(state: &[u8]) -> Follower
 
 // Writes a state into lent bytes.
 fn put_state(state: &mut [u8], follower: Follower)
-    requires { ⌜ (length (now state) ≡ 16) × (length (follower .set) ≡ 16) ⌝ }
-    ensures { λ _. ⌜ now (state .exit) ≡ follower .set ⌝ }
+    requires { ⌜ (length (now state) ≡ stateSize) × (length (follower .set) ≡ 16) ⌝ }
+    ensures { λ _. ⌜ now (state .exit) ≡ bytesIn follower ⌝ }
 {
     let set = follower.set;
     let mut i: usize = 0;
@@ -161,48 +217,47 @@ fn put_state(state: &mut [u8], follower: Follower)
     }
 }
 
-// One event, of a state in lent bytes. A refusal changes none of them.
-pub fn event_lent(chart: &[u8], state: &mut [u8], action: u8) -> Followed
-    ensures { λ r. ⌜ (r ≡ eventLent (now (chart .entry)) (now (state .entry)) action .answer)
-        × (now (state .exit) ≡ eventLent (now (chart .entry)) (now (state .entry)) action .follower .set) ⌝ }
+// 53 of another number of lent bytes than the state's, after 20 and 21.
+fn other_length(chart: &[u8]) -> Followed
+    ensures { λ r. ⌜ r ≡ otherLength (checkOf (now (chart .entry))) ⌝ }
 {
     match chart::check(chart) {
-        Stage::Refused(place) => {
-            return Followed::Refused(place);
-        }
-        Stage::Passed => {}
+        Stage::Refused(place) => Followed::Refused(place),
+        Stage::Passed => Followed::Refused(Place::FollowerSet),
     }
+}
+
+// One event, of a state in lent bytes. A refusal changes none of them.
+pub fn event_lent(chart: &[u8], state: &mut [u8], action: u8) -> Followed
+    ensures { λ r. ⌜ (r ≡ lentOn (now (chart .entry)) (now (state .entry)) (event action) .0)
+        × (now (state .exit) ≡ lentOn (now (chart .entry)) (now (state .entry)) (event action) .1) ⌝ }
+{
     if state.len() != 16 {
-        return Followed::FollowerSet;
+        return other_length(chart);
     }
-    let moved = event_on(chart, state_of(state), action);
+    let moved = event(state_of(state), chart, action);
     put_state(state, moved.follower);
     moved.answer
 }
 
 // A restart, of a state in lent bytes. A refusal changes none of them.
 pub fn restart_lent(chart: &[u8], state: &mut [u8]) -> Followed
-    ensures { λ r. ⌜ (r ≡ restartLent (now (chart .entry)) (now (state .entry)) .answer)
-        × (now (state .exit) ≡ restartLent (now (chart .entry)) (now (state .entry)) .follower .set) ⌝ }
+    ensures { λ r. ⌜ (r ≡ lentOn (now (chart .entry)) (now (state .entry)) restart .0)
+        × (now (state .exit) ≡ lentOn (now (chart .entry)) (now (state .entry)) restart .1) ⌝ }
 {
-    match chart::check(chart) {
-        Stage::Refused(place) => {
-            return Followed::Refused(place);
-        }
-        Stage::Passed => {}
-    }
     if state.len() != 16 {
-        return Followed::FollowerSet;
+        return other_length(chart);
     }
-    let moved = restart_on(chart);
+    let moved = restart_from(state_of(state), chart);
     put_state(state, moved.follower);
     moved.answer
 }
 
 // One event, of a follower that is lent and updated where it stands.
 pub fn event_in_place(follower: &mut Follower, chart: &[u8], action: u8) -> Followed
-    ensures { λ r. ⌜ (r ≡ eventOf (now (chart .entry)) (now (follower .entry)) action .answer)
-        × (now (follower .exit) ≡ eventOf (now (chart .entry)) (now (follower .entry)) action .follower) ⌝ }
+    ensures { λ r. ⌜ (r ≡ calledOn (now (chart .entry)) (now (follower .entry)) (event action) .answer)
+        × (now (follower .exit)
+        ≡ calledOn (now (chart .entry)) (now (follower .entry)) (event action) .follower) ⌝ }
 {
     let moved = event(*follower, chart, action);
     *follower = moved.follower;
@@ -211,17 +266,17 @@ pub fn event_in_place(follower: &mut Follower, chart: &[u8], action: u8) -> Foll
 
 // A restart, of a follower that is lent and updated where it stands.
 pub fn restart_in_place(follower: &mut Follower, chart: &[u8]) -> Followed
-    ensures { λ r. ⌜ (r ≡ restartFrom (now (chart .entry)) (now (follower .entry)) .answer)
-        × (now (follower .exit) ≡ restartFrom (now (chart .entry)) (now (follower .entry)) .follower) ⌝ }
+    ensures { λ r. ⌜ (r ≡ calledOn (now (chart .entry)) (now (follower .entry)) restart .answer)
+        × (now (follower .exit) ≡ calledOn (now (chart .entry)) (now (follower .entry)) restart .follower) ⌝ }
 {
     let moved = restart_from(*follower, chart);
     *follower = moved.follower;
     moved.answer
 }
 
-// The functions above, called on a local: for a caller that lends no follower.
+// The functions above, called on a local: they stand for a caller that lends a follower.
 pub fn event_through(follower: Follower, chart: &[u8], action: u8) -> Moved
-    ensures { λ r. ⌜ r ≡ eventOf (now (chart .entry)) follower action ⌝ }
+    ensures { λ r. ⌜ r ≡ calledOn (now (chart .entry)) follower (event action) ⌝ }
 {
     let mut lent = follower;
     let answer = event_in_place(&mut lent, chart, action);
@@ -232,7 +287,7 @@ pub fn event_through(follower: Follower, chart: &[u8], action: u8) -> Moved
 }
 
 pub fn restart_through(follower: Follower, chart: &[u8]) -> Moved
-    ensures { λ r. ⌜ r ≡ restartFrom (now (chart .entry)) follower ⌝ }
+    ensures { λ r. ⌜ r ≡ calledOn (now (chart .entry)) follower restart ⌝ }
 {
     let mut lent = follower;
     let answer = restart_in_place(&mut lent, chart);
@@ -255,11 +310,11 @@ pub fn shortest_way(chart: &[u8], state: &[u8], out: &mut [u8]) -> Way
         Stage::Passed => {}
     }
     if state.len() != 16 {
-        return Way::FollowerSet;
+        return Way::Refused(Place::FollowerSet);
     }
     let set = read_set(state, 0);
-    if !set_fits(set, byte(chart, 0)) {
-        return Way::FollowerSet;
+    match ready(chart, set) {
+        Stage::Refused(place) => Way::Refused(place),
+        Stage::Passed => way_from(chart, set, out),
     }
-    way_from(chart, set, out)
 }

@@ -28,11 +28,11 @@ use Rattle.verdict.specs.Verdicts.{nodesIn, chartIn, labelsIn, relationIn, verd
 use Rattle.verdict.proofs.Files.{records-iff, records-whole}
 use Rattle.verdict.proofs.Layouts.{whole-layout, layout-whole}
 use Rattle.verdict.proofs.Verdicts.{accepted-iff}
-use Rattle.promises.specs.Demand2.{chartSystem}
+use Rattle.chart.specs.Systems.{systemOf}
 use Rattle.promises.specs.Accepted.{expressionSystem, Holds}
 
 -- the written body's chart is the expression's
-same-chart : (s b relation : List ℕ) → Bisimulation (chartSystem (bodyOf s)) (chartSystem b) (Related relation) ↔ Bisimulation (expressionSystem s) (chartSystem b) (Related relation)
+same-chart : (s b relation : List ℕ) → Bisimulation (systemOf (bodyOf s)) (systemOf b) (Related relation) ↔ Bisimulation (expressionSystem s) (systemOf b) (Related relation)
 same-chart s b relation = ((λ h. rw (body-start s, body-transitions s) at h), (λ h. rw (body-start s, body-transitions s) h))
 
 -- a part of a list of bytes is one

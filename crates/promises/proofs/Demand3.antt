@@ -47,13 +47,15 @@ use Rattle.bisimulation.specs.Answers.{Related}
 use Rattle.bisimulation.proofs.Relations.{relation-iff-bisimulation}
 use Rattle.elimination.specs.Removals.{removedAs}
 use Rattle.elimination.proofs.Lists.{Passing, formed, listed, call-answers, call-stands, calls-agree}
-use Rattle.follower.specs.States.{machineOf, followedAs, restartOf, restartFrom, restartLent}
+use Rattle.follower.specs.States.{noState}
+use Rattle.follower.specs.Calls.{followedAs, calledOn, lentOn}
 use Rattle.follower.specs.Lists.{ByRule}
-use Rattle.follower.proofs.Lists.{by-value-follows, in-place-follows, lent-follows, fresh-by-value, fresh-in-place, fresh-lent}
+use Rattle.follower.proofs.Calls.{fresh-called}
+use Rattle.follower.proofs.Lists.{by-value-follows, in-place-follows, lent-follows, fresh-held}
 use Rattle.verdict.specs.Verdicts.{nodesIn, chartIn, labelsIn, relationIn, verdictOf}
 use Rattle.verdict.proofs.Verdicts.{accepted-iff}
 use Rattle.promises.specs.Check.{stepsIn, expressionIn}
-use Rattle.promises.specs.Demand2.{chartSystem}
+use Rattle.chart.specs.Systems.{systemOf, machineOf}
 use Rattle.promises.specs.Demand3.{allStanding, Remaining, EachRemoval, ended, call, plainNumbers, AgainstPlainSet, OrderExists, branchByte, RunsThrough, FollowerGives, ruleNumbers, rootIn, OneList, Demand3}
 use Rattle.promises.proofs.Accepted.{part-bytes}
 
@@ -153,12 +155,12 @@ module _ {b labels : List ℕ} (c : Passing b labels) where
 
 -- THE FOLLOWER OVER A BODY THAT PASSES, where the rule has but one list of answers over its chart
 gives : {b : List ℕ} {cs : List events.Call} {xs : List events.Answer} → chart.WellFormed b
-    → ((zs : List events.Answer) → Answers events.eventRule (chartSystem b) tt cs zs → zs ≡ xs)
+    → ((zs : List events.Answer) → Answers events.eventRule (systemOf b) tt cs zs → zs ≡ xs)
     → FollowerGives b cs (map ruleNumbers xs)
 gives {b} {cs} {xs} W one = record {
-  by-value = told (by-value-follows W (restartOf b .follower) (fresh-by-value W) cs);
-  in-place = λ f. told (in-place-follows W (restartFrom b f .follower) (fresh-in-place W f) cs);
-  lent = λ s h. told (lent-follows W (restartLent b s .follower .set) (fresh-lent W s h) cs);
+  by-value = told (by-value-follows W (calledOn b noState events.restart .follower) (fresh-called W noState) cs);
+  in-place = λ f. told (in-place-follows W (calledOn b f events.restart .follower) (fresh-called W f) cs);
+  lent = λ s h. let (held, F) = fresh-held W s h in told (lent-follows W (lentOn b s events.restart .1) held F cs);
 }
   where
     told : {ys : List Followed} → ByRule b cs ys → map followedNumbers ys ≡ map ruleNumbers xs
@@ -197,12 +199,12 @@ module _ (f : List ℕ) (bytes : Bytes f) {v t l : ℕ} (accepted : verdictOf f 
   nodes-pass : nodes.checkOf (nodesIn f) ≡ stage.Passed
   nodes-pass = let (r, n, c, p, q, v′, t′) = accepted-iff f v t l .0 accepted in n
 
-  charts-match : Bisimulation (chartSystem (expressionIn f)) (chartSystem (chartIn f)) (Related (relationIn f))
+  charts-match : Bisimulation (systemOf (expressionIn f)) (systemOf (chartIn f)) (Related (relationIn f))
   charts-match =
       let (r, n, c, p, q, v′, t′) = accepted-iff f v t l .0 accepted in
       relation-iff-bisimulation (expressionIn f) (chartIn f) (relationIn f) .0 q .2
 
-  rules-match : Bisimulation (chartSystem (expressionIn f)) (rules (rootIn f)) (Means (nodes.node (nodesIn f)) (nodes.count (nodesIn f)))
+  rules-match : Bisimulation (systemOf (expressionIn f)) (rules (rootIn f)) (Means (nodes.node (nodesIn f)) (nodes.count (nodesIn f)))
   unfolding chartOf
   rules-match =
       let w = passed→well-formed (nodesIn f) nodes-pass in
@@ -229,7 +231,7 @@ module _ (f : List ℕ) (bytes : Bytes f) {v t l : ℕ} (accepted : verdictOf f 
       given : Answers events.eventRule (rules (rootIn f)) tt cs xs
       given = rules-answers (rootIn f) events.eventRule tt cs
 
-      written : Answers events.eventRule (chartSystem (expressionIn f)) tt cs (runFresh events.eventRule (machineOf (expressionIn f)) tt cs)
+      written : Answers events.eventRule (systemOf (expressionIn f)) tt cs (runFresh events.eventRule (machineOf (expressionIn f)) tt cs)
       written = chart-answers _ _ events.eventRule tt cs
 
   -- DEMAND 3

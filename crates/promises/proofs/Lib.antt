@@ -4,7 +4,7 @@ pub mod Numbered
 pub mod Check
 pub mod ExpressionChart
 pub mod Removal
-pub mod FollowerNumbers
+pub mod Follower
 pub mod ShortestWay
 pub mod LoopsTogether
 pub mod Accepted

@@ -1,8 +1,6 @@
 -- From what each answer says to what its numbers say.
 use mathlib.Core.Path.{_≡_, refl, sym, _∙_, ap}
 use mathlib.Core.Logic.{_↔_}
-use mathlib.Core.List.{List}
-use Prim.Native.Nat.{ℕ}
 use Rattle.report.specs.declared.Numbers.{Numbers}
 use Rattle.promises.specs.Numbered.{Numbered, ByNumbers}
 
@@ -19,17 +17,17 @@ module _ {X : Type 0} (numbers : X → Numbers) where
     pub one-numbered : {k k′ : Numbers} → Numbered numbers Answer k → Numbered numbers Answer k′ → k ≡ k′
     one-numbered h h′ = sym (numbered _ .1 h) ∙ numbered _ .1 h′
 
-  -- A CALL THAT IS LENT BYTES, answers c and leaves `left`
-  module _ {Answer : X → List ℕ → Type 0} {c : X} {left : List ℕ}
-      (says : (x : X) (t : List ℕ) → ((c ≡ x) × (left ≡ t)) ↔ Answer x t) where
+  -- A CALL THAT IS LENT OR HANDS BACK SOMETHING, answers c and leaves `left`
+  module _ {L : Type 0} {Answer : X → L → Type 0} {c : X} {left : L}
+      (says : (x : X) (t : L) → ((c ≡ x) × (left ≡ t)) ↔ Answer x t) where
     pub by-numbers : ByNumbers numbers Answer c left
     by-numbers k t = (
       (λ (e, f). record { answer = c; meant = says c t .0 (refl, f); numbered = e }),
       (λ h. let (e, f) = says (h .answer) t .1 (h .meant) in (ap numbers e ∙ h .numbered, f)),
     )
 
-    -- and no other numbers and bytes are meant
-    pub one-given : {k k′ : Numbers} {t t′ : List ℕ} → Numbered numbers (λ x. Answer x t) k → Numbered numbers (λ x. Answer x t′) k′
+    -- and nothing else is meant
+    pub one-given : {k k′ : Numbers} {t t′ : L} → Numbered numbers (λ x. Answer x t) k → Numbered numbers (λ x. Answer x t′) k′
         → (k ≡ k′) × (t ≡ t′)
     one-given h h′ =
         let (e, f) = by-numbers _ _ .1 h in

@@ -5,7 +5,7 @@ use Rattle.promises.proofs.Accepted.{accepted-iff-holds}
 use Rattle.promises.proofs.Check.{check-numbers}
 use Rattle.promises.proofs.ExpressionChart.{chart-numbers}
 use Rattle.promises.proofs.Removal.{removal-numbers}
-use Rattle.promises.proofs.FollowerNumbers.{lent-numbers, follower-numbers, restart-numbers}
+use Rattle.promises.proofs.Follower.{lent-numbers, call-numbers, restart-numbers}
 use Rattle.promises.proofs.ShortestWay.{way-numbers, of-shortest-ways}
 use Rattle.promises.proofs.LoopsTogether.{together-numbers, in-every-order, empty-done, over-accepted}
 use Rattle.promises.proofs.Demand2.{writes-the-chart, labelling-passes, relation-passes}
@@ -17,7 +17,7 @@ promises = record {
   expression-chart = chart-numbers;
   removal = removal-numbers;
   on-lent-bytes = lent-numbers;
-  on-a-state = follower-numbers;
+  on-a-state = call-numbers;
   restart-by-value = restart-numbers;
   accepted = accepted-iff-holds;
   writes-the-chart = writes-the-chart;

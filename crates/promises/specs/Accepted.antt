@@ -15,7 +15,7 @@ use Rattle.expression.specs.Table as nodes
 use Rattle.expression.specs.Body.{chartOf}
 use Rattle.bisimulation.specs.Answers.{Related}
 use Rattle.verdict.specs.Files.{fileOf}
-use Rattle.promises.specs.Demand2.{chartSystem}
+use Rattle.chart.specs.Systems.{systemOf}
 
 -- the chart of an expression's nodes
 abbrev pub expressionSystem : List ℕ → System
@@ -30,7 +30,7 @@ pub record Yard (s b labels relation : List ℕ) : Type 0 where
   pub witness : Witness (StepsOf b labels) (chart.startOf b)
   pub rows : length relation ≡ 16 * suc (nodes.count s)
   pub in-range : (u v : ℕ) → Related relation u v → (u < suc (nodes.count s)) × (v < chart.verticesOf b)
-  pub bisimulation : Bisimulation (expressionSystem s) (chartSystem b) (Related relation)
+  pub bisimulation : Bisimulation (expressionSystem s) (systemOf b) (Related relation)
 
 abbrev pub NumberOfLoops : Steps → ℕ → Type 0
 NumberOfLoops S n = (xs : List (ℕ × ℕ)) × AllLoops S xs × (length xs ≡ n)

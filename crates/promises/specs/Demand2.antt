@@ -10,8 +10,7 @@ use Rattle.theory.specs.Ascending.{Ascending}
 use Rattle.theory.specs.Expressions.{Expr, Target, Step}
 use Rattle.theory.specs.Nodes.{expr, residual, meaning}
 use Rattle.theory.specs.Climbs.{LeadsBy}
-use Rattle.theory.specs.Systems.{System, Bisimulation}
-use Rattle.theory.specs.Transitions as transitions
+use Rattle.theory.specs.Systems.{Bisimulation}
 use Rattle.theory.specs.Transitions.{precedes}
 use Rattle.theory.specs.Witnesses.{Witness, Connected}
 use Rattle.report.specs.declared.Labelled.the-variants as labelled
@@ -19,6 +18,7 @@ use Rattle.report.specs.declared.Stage.the-variants as stage
 use Rattle.report.specs.declared.Written.the-variants as written
 use Rattle.chart.specs.Bodies.{verticesOf, startOf, countOf}
 use Rattle.chart.specs.Steps.{transitionsOf, StepsOf}
+use Rattle.chart.specs.Systems.{systemOf}
 use Rattle.expression.specs.Table as nodes
 use Rattle.expression.specs.Body.{writtenOf, bufferOf}
 use Rattle.witness.specs.Labellings.{labelledOf}
@@ -67,11 +67,8 @@ LabellingPasses b labels = ((n : ℕ) × (labelledOf b labels ≡ labelled.Passe
     × Witness (StepsOf b labels) (startOf b))
 
 -- RELATIONS, between two chart bodies
-abbrev pub chartSystem : List ℕ → System
-chartSystem b = transitions.chart (startOf b) (transitionsOf b)
-
 abbrev pub RelationPasses : List ℕ → List ℕ → List ℕ → Type 0
 RelationPasses e b relation = (relationOf e b relation ≡ stage.Passed)
     ↔ ((length relation ≡ 16 * verticesOf e)
     × ((u v : ℕ) → Related relation u v → (u < verticesOf e) × (v < verticesOf b))
-    × Bisimulation (chartSystem e) (chartSystem b) (Related relation))
+    × Bisimulation (systemOf e) (systemOf b) (Related relation))

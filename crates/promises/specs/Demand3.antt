@@ -31,8 +31,9 @@ use Rattle.chart.specs.Standing.{StandsFor}
 use Rattle.expression.specs.Table as nodes
 use Rattle.elimination.specs.Removals.{removalOf, leftOf, answersOf, leftAfter}
 use Rattle.follower.specs.declared.Follower.{Follower}
-use Rattle.follower.specs.States.{restartOf, restartFrom, restartLent}
-use Rattle.follower.specs.Lists.{byValue, inPlace, lent}
+use Rattle.follower.specs.States.{stateSize, noState}
+use Rattle.follower.specs.Calls.{calledOn, lentOn}
+use Rattle.follower.specs.Lists.{byValue, inPlace}
 use Rattle.verdict.specs.Verdicts.{nodesIn, chartIn, labelsIn}
 use Rattle.promises.specs.Check.{stepsIn, expressionIn}
 
@@ -95,12 +96,12 @@ pub record RunsThrough (b labels : List ℕ) (xs : List Pair) : Type 0 where
 -- numbers ks:
 pub record FollowerGives (b : List ℕ) (cs : List events.Call) (ks : List Numbers) : Type 0 where
   -- by value
-  pub by-value : map followedNumbers (run (byValue b) cs (restartOf b .follower)) ≡ ks
+  pub by-value : map followedNumbers (run (byValue b) cs (calledOn b noState events.restart .follower)) ≡ ks
   -- in a state that is lent itself, whatever it was before
-  pub in-place : (f : Follower) → map followedNumbers (run (inPlace b) cs (restartFrom b f .follower)) ≡ ks
-  -- in sixteen lent bytes, whatever they were before
-  pub lent : (s : List ℕ) → length s ≡ 16
-      → map followedNumbers (run (lent b) cs (restartLent b s .follower .set)) ≡ ks
+  pub in-place : (f : Follower) → map followedNumbers (run (inPlace b) cs (calledOn b f events.restart .follower)) ≡ ks
+  -- in as many lent bytes as a state has, whatever they were before
+  pub lent : (s : List ℕ) → length s ≡ stateSize
+      → map followedNumbers (run (lentOn b) cs (lentOn b s events.restart .1)) ≡ ks
 
 -- document 01's numbers for each answer of the published rules' follower
 abbrev pub ruleNumbers : events.Answer → Numbers

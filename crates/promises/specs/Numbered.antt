@@ -1,9 +1,7 @@
 -- What a call says, by its four numbers. The meaning of a call is `Answer x t`: what document 01 or 02 says of the answer x
--- and of the lent bytes t after it.
+-- and of what is lent, or handed back, after it.
 use mathlib.Core.Path.{_≡_}
 use mathlib.Core.Logic.{_↔_}
-use mathlib.Core.List.{List}
-use Prim.Native.Nat.{ℕ}
 use Rattle.report.specs.declared.Numbers.{Numbers}
 
 -- some answer is meant, and k are its number and values
@@ -12,11 +10,11 @@ pub record Numbered {X : Type 0} (numbers : X → Numbers) (Answer : X → Type 
   pub meant : Answer answer
   pub numbered : numbers answer ≡ k
 
-module _ {X : Type 0} (numbers : X → Numbers) where
-  -- the answer c has the numbers k, and the bytes `left` are t
-  abbrev pub Gives : (c : X) (left : List ℕ) → Numbers → (t : List ℕ) → Type 0
+module _ {X L : Type 0} (numbers : X → Numbers) where
+  -- the answer c has the numbers k, and what is left is t
+  abbrev pub Gives : (c : X) (left : L) → Numbers → (t : L) → Type 0
   Gives c left k t = (numbers c ≡ k) × (left ≡ t)
 
   -- BY THE NUMBERS: a call that answers c and leaves `left` gives n p q r and t exactly where that is meant
-  abbrev pub ByNumbers : (Answer : X → List ℕ → Type 0) (c : X) (left : List ℕ) → Type 0
-  ByNumbers Answer c left = (k : Numbers) (t : List ℕ) → Gives c left k t ↔ Numbered numbers (λ x. Answer x t) k
+  abbrev pub ByNumbers : (Answer : X → L → Type 0) (c : X) (left : L) → Type 0
+  ByNumbers Answer c left = (k : Numbers) (t : L) → Gives c left k t ↔ Numbered numbers (λ x. Answer x t) k

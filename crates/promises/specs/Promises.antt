@@ -1,5 +1,5 @@
 -- ALL THAT IS PROMISED, in one record; its proof is `promises`. The contracts of the code say by equation that the calls
--- answer and leave what the functions here do: `verdictOf`, `writtenOf`, `removalOf`, `lentCalled` and so on. `Bytes` has
+-- answer and leave what the functions here do: `verdictOf`, `writtenOf`, `removalOf`, `calledOn`, `lentOn` and so on. `Bytes` has
 -- every entry of a list below 256, which the code's types say of what comes in.
 use mathlib.Core.Path.{_≡_}
 use mathlib.Core.Logic.{_↔_}
@@ -16,17 +16,15 @@ use Rattle.chart.specs.Standing.{StandsFor}
 use Rattle.elimination.specs.RemovalAnswers.{Fits}
 use Rattle.elimination.specs.Together.{togetherOf}
 use Rattle.follower.specs.declared.Follower.{Follower}
-use Rattle.follower.specs.States.{noBytes, restartOf}
-use Rattle.follower.specs.FollowerAnswers.{StateBytes}
+use Rattle.follower.specs.States.{Formed, noState}
 use Rattle.follower.specs.WayAnswers.{StatePasses}
-use Rattle.follower.specs.Lists.{called, lentCalled}
 use Rattle.verdict.specs.Verdicts.{chartIn, labelsIn, verdictOf}
 use Rattle.promises.specs.Accepted.{Holds}
 use Rattle.promises.specs.Check.{stepsIn, Sentence}
 use Rattle.promises.specs.ExpressionChart.{ChartByNumbers}
 use Rattle.promises.specs.Removal.{RemovalByNumbers}
-use Rattle.promises.specs.Follower.{FollowerSentence, GivesNumbers}
-use Rattle.promises.specs.ShortestWay.{WaySentence, WayNumbered, OfShortestWays}
+use Rattle.promises.specs.Follower.{CallByNumbers, LentByNumbers}
+use Rattle.promises.specs.ShortestWay.{WayByNumbers, OfShortestWays}
 use Rattle.promises.specs.LoopsTogether.{TogetherByNumbers, InEveryOrder, EmptyDone, OverAccepted}
 use Rattle.promises.specs.Demand2.{WritesTheChart, LabellingPasses, RelationPasses}
 use Rattle.promises.specs.Demand3.{Demand3}
@@ -41,12 +39,9 @@ pub record Promises : Type 1 where
   pub removal : (b labels : List ℕ) → Bytes labels → (v l : ℕ) (standing : List ℕ)
       → RemovalByNumbers b labels v l standing
   -- an event or a restart of the follower: on lent bytes, on a state by value or lent itself; and a restart by value
-  pub on-lent-bytes : (b s : List ℕ) → Bytes s → (c : Call) (t : List ℕ) (n p q r : ℕ)
-      → GivesNumbers (lentCalled b s c) t (four n p q r) ↔ FollowerSentence b s c t n p q r
-  pub on-a-state : (b : List ℕ) (f : Follower) → StateBytes (f .set) → (c : Call) (t : List ℕ) (n p q r : ℕ)
-      → GivesNumbers (called b f c) t (four n p q r) ↔ FollowerSentence b (f .set) c t n p q r
-  pub restart-by-value : (b t : List ℕ) (n p q r : ℕ)
-      → GivesNumbers (restartOf b) t (four n p q r) ↔ FollowerSentence b noBytes restart t n p q r
+  pub on-lent-bytes : (b s : List ℕ) → Bytes s → (c : Call) → LentByNumbers b s c
+  pub on-a-state : (b : List ℕ) (f : Follower) → Formed f → (c : Call) → CallByNumbers b f c
+  pub restart-by-value : (b : List ℕ) → CallByNumbers b noState restart
   -- DEMAND 2: which files are accepted, and with which counts
   pub accepted : (f : List ℕ) → Bytes f → (v t l : ℕ) → (verdictOf f ≡ Accepted v t l) ↔ Holds f v t l
   -- an expression's chart has exactly the steps that the published rules derive
@@ -58,8 +53,7 @@ pub record Promises : Type 1 where
   -- DEMAND 3, over an accepted file: removals and followers
   pub over-accepted : (f : List ℕ) → Bytes f → (v t l : ℕ) → verdictOf f ≡ Accepted v t l → Demand3 f
   -- DOCUMENT 02. C-11, the shortest way: each answer, and what holds of the list
-  pub shortest-way : (b s out : List ℕ) → Bytes b → Bytes s → (t : List ℕ) (n p q r : ℕ)
-      → WayNumbered b s out t (four n p q r) ↔ WaySentence b s out t n p q r
+  pub shortest-way : (b s out : List ℕ) → Bytes b → Bytes s → WayByNumbers b s out
   pub shortest-ways : (b s : List ℕ) → Bytes b → Bytes s → StatePasses b s → OfShortestWays b s
   -- C-12, several loops out together: each answer; a list that is done, and the empty list; and over an accepted file,
   -- where the bytes stand for a plain set X of its loops

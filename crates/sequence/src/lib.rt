@@ -8,7 +8,8 @@ ghost use Rattle.verdict.specs.Verdicts.{verdictOf};
 ghost use Rattle.expression.specs.Body.{writtenOf, bufferOf};
 ghost use Rattle.elimination.specs.Removals.{removalOf, leftOf};
 ghost use Rattle.elimination.specs.Together.{togetherOf, leftTogether};
-ghost use Rattle.follower.specs.States.{eventLent, restartLent};
+ghost use Rattle.theory.specs.Events.{restart, event};
+ghost use Rattle.follower.specs.Calls.{lentOn};
 ghost use Rattle.follower.specs.Ways.{wayOf, wayLeft};
 use report::Numbers;
 use report::followed_numbers;
@@ -75,8 +76,8 @@ pub extern "C" fn seq_remove_together(
 // set and how many actions are offered, or the refusal, which changes no byte of the state.
 #[no_mangle]
 pub extern "C" fn seq_restart(chart: &[u8], state: &mut [u8]) -> Numbers
-    ensures { λ r. ⌜ (r ≡ followedNumbers (restartLent (now (chart .entry)) (now (state .entry)) .answer))
-        × (now (state .exit) ≡ restartLent (now (chart .entry)) (now (state .entry)) .follower .set) ⌝ }
+    ensures { λ r. ⌜ (r ≡ followedNumbers (lentOn (now (chart .entry)) (now (state .entry)) restart .0))
+        × (now (state .exit) ≡ lentOn (now (chart .entry)) (now (state .entry)) restart .1) ⌝ }
 {
     followed_numbers(follower::restart_lent(chart, state))
 }
@@ -84,8 +85,8 @@ pub extern "C" fn seq_restart(chart: &[u8], state: &mut [u8]) -> Numbers
 // An event likewise: 1 for taken, 0 for not possible.
 #[no_mangle]
 pub extern "C" fn seq_event(chart: &[u8], state: &mut [u8], action: u8) -> Numbers
-    ensures { λ r. ⌜ (r ≡ followedNumbers (eventLent (now (chart .entry)) (now (state .entry)) action .answer))
-        × (now (state .exit) ≡ eventLent (now (chart .entry)) (now (state .entry)) action .follower .set) ⌝ }
+    ensures { λ r. ⌜ (r ≡ followedNumbers (lentOn (now (chart .entry)) (now (state .entry)) (event action) .0))
+        × (now (state .exit) ≡ lentOn (now (chart .entry)) (now (state .entry)) (event action) .1) ⌝ }
 {
     followed_numbers(follower::event_lent(chart, state, action))
 }

@@ -14,8 +14,8 @@ use Rattle.expression.specs.Table.{node, count}
 use Rattle.expression.specs.Body.{writtenOf, bufferOf}
 use Rattle.witness.specs.Labellings.{labelledOf}
 use Rattle.elimination.specs.Removals.{removalOf, leftOf}
-use Rattle.follower.specs.States.{followedAs}
-use Rattle.follower.specs.Lists.{byValue, inPlace, lent}
+use Rattle.follower.specs.Calls.{followedAs, lentOn}
+use Rattle.follower.specs.Lists.{byValue, inPlace}
 use Rattle.verdict.specs.Verdicts.{onLoops, accepted, verdictOf}
 
 pub data Case : Type 0 where
@@ -71,8 +71,8 @@ holds (follows-in-place body state calls answers left) =
     sameAnswers (map followedNumbers (run (inPlace body) calls (record { set = state }))) answers
     && sameBytes (runLeaves (inPlace body) calls (record { set = state }) .set) left
 holds (follows-lent body state calls answers left) =
-    sameAnswers (map followedNumbers (run (lent body) calls state)) answers
-    && sameBytes (runLeaves (lent body) calls state) left
+    sameAnswers (map followedNumbers (run (lentOn body) calls state)) answers
+    && sameBytes (runLeaves (lentOn body) calls state) left
 holds (rules-follow nodes calls answers) =
     sameAnswers (map (λ x. followedNumbers (followedAs x)) (runFresh eventRule (ruleMachine (rootOf nodes)) tt calls))
     answers

@@ -1,6 +1,6 @@
 use mathlib.Core.Path.{_≡_, sym, _∙_}
 use lib.ListN.{length}
-use Rattle.follower.proofs.Finds.{event-refused}
+use Rattle.follower.proofs.Calls.{called-refused}
 use borrow.Author.Needs.{needs}
 use Rattle.follower.proofs.event.Statement.{statement}
 use Rattle.follower.proofs.event.Tie as tie
@@ -22,7 +22,7 @@ event-on-requires c κs = (
 )
 
 returns : tie.Need-returns
-returns c = sym (event-refused _ _ _ (sym (c .before .before .before .check .ensures) ∙ c .before .place .given .1))
+returns c = sym (called-refused _ _ _ (sym (c .before .before .before .check .ensures) ∙ c .before .place .given .1))
 
 returns-2 : tie.Need-returns-2
 returns-2 c = search needs

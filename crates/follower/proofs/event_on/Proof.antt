@@ -1,10 +1,6 @@
 use mathlib.Core.Path.{sym, _∙_}
-use mathlib.Core.Bool.{true≢false}
-use native.Mathlib.Omega.{arith}
-use borrow.Author.Tests.{not-true, not-false}
-use Rattle.bits.specs.Bits.{Bytes}
-use Rattle.chart.proofs.Checks.{well-formed}
-use Rattle.follower.proofs.Finds.{read-same, event-53, event-stays, event-moves}
+use Rattle.follower.proofs.Calls.{called-unready, called-ruled}
+use Rattle.follower.proofs.Finds.{read-same, ready-stage, ready-fits}
 use borrow.Author.Needs.{needs}
 use Rattle.follower.proofs.event_on.Statement.{statement}
 use Rattle.follower.proofs.event_on.Tie as tie
@@ -15,79 +11,35 @@ slice-aggregate-read-set c = search needs
 read-set-requires : tie.Need-read-set-requires
 read-set-requires c κs = search needs
 
-byte-requires : tie.Need-byte-requires
-byte-requires c κs = let W = well-formed _ (c .before .before .before .before .pre .0) in omega (arith, W .header .long)
+ready-requires : tie.Need-ready-requires
+ready-requires c κs = search needs
 
-set-fits-requires : tie.Need-set-fits-requires
-set-fits-requires c κs = search needs
+enum-known-place : tie.Need-enum-known-place
+enum-known-place c = search needs
+
+enum-told : tie.Need-enum-told
+enum-told c = search needs
+
+event-from-requires : tie.Need-event-from-requires
+event-from-requires c κs =
+    let a = c .before .before .before .before .before .before .before in
+    let S = read-same (a .args .follower) (c .before .before .before .read-set .ensures) in
+    (a .pre .0, S, ready-fits (a .args .chart .now) (a .args .follower) S (c .before .before .ready .ensures) (c .enum-told .given .1))
 
 returns : tie.Need-returns
 returns c =
-    let a = c .before .before .before .before .before .before .before in
-    let B : Bytes (a .args .chart .now) = λ k. omega (
-      arith,
-      c .before .before .before .before .before .before .shared-slice-known .given k,
-    ) in
-    sym (event-53 _ (a .pre .0) B (a .args .follower)
-    (read-same (a .args .follower .set) (c .before .before .before .read-set .ensures)) _
-    (λ f. true≢false (sym (c .before .set-fits .ensures .1 (rw (c .before .before .byte .ensures .0) f)) ∙ not-true _ (c .if1 .taken))))
-
-begins-requires : tie.Need-begins-requires
-begins-requires c κs = search needs
-
-image-requires : tie.Need-image-requires
-image-requires c κs = search needs
-
-is-empty-requires : tie.Need-is-empty-requires
-is-empty-requires c κs = search needs
-
-count-offered-requires : tie.Need-count-offered-requires
-count-offered-requires c κs = search needs
-
-contains-requires : tie.Need-contains-requires
-contains-requires c κs = search needs
+    let r = c .before .before .before in
+    let a = r .before .before .before .before .before in
+    let S = read-same (a .args .follower) (r .before .read-set .ensures) in
+    sym (called-unready _ _ _ (a .pre .0) (sym (ready-stage (a .args .chart .now) (a .args .follower) S (r .ready .ensures)) ∙ c .before .place .given .1))
 
 returns-2 : tie.Need-returns-2
 returns-2 c =
-    let a = c .before .before .before .before .before .before .before .before .before .before .before .before .before .before .before in
-    let f = c .before .before .before .before .before .before .before .before .before in
-    let B : Bytes (a .args .chart .now) = λ k. omega (
-      arith,
-      c .before .before .before .before .before .before .before .before .before .before .before .before .before .before .shared-slice-known .given k,
-    ) in
-    let fits = rw (f .before .byte .ensures .0) at
-    (f .set-fits .ensures .0 (not-false _ (c .before .before .before .before .before .before .before .before .if1 .left))) in
-    event-stays _ (a .pre .0) B (a .args .follower)
-    (read-same (a .args .follower .set) (f .before .before .read-set .ensures)) _ fits
-    (c .before .before .before .before .before .image .ensures)
-    (c .before .before .before .before .is-empty .ensures .0 (c .before .before .before .if2 .taken))
-    (c .contains .ensures) (c .before .count-offered .ensures)
-
-count-offered-requires-2 : tie.Need-count-offered-requires-2
-count-offered-requires-2 c κs = search needs
-
-set-bytes-requires : tie.Need-set-bytes-requires
-set-bytes-requires c κs = search needs
-
-contains-requires-2 : tie.Need-contains-requires-2
-contains-requires-2 c κs = search needs
-
-returns-3 : tie.Need-returns-3
-returns-3 c =
-    let a = c .before .before .before .before .before .before .before .before .before .before .before .before .before .before .before .before in
-    let f = c .before .before .before .before .before .before .before .before .before .before in
-    let B : Bytes (a .args .chart .now) = λ k. omega (
-      arith,
-      c .before .before .before .before .before .before .before .before .before .before .before .before .before .before .before .shared-slice-known .given k,
-    ) in
-    let fits = rw (f .before .byte .ensures .0) at
-    (f .set-fits .ensures .0 (not-false _ (c .before .before .before .before .before .before .before .before .before .if1 .left))) in
-    event-moves _ (a .pre .0) B (a .args .follower)
-    (read-same (a .args .follower .set) (f .before .before .read-set .ensures)) _ fits
-    (c .before .before .before .before .before .before .image .ensures)
-    (λ e. true≢false (sym (c .before .before .before .before .before .is-empty .ensures .1 e)
-    ∙ c .before .before .before .before .if2 .left)) (c .contains2 .ensures)
-    (c .before .before .count-offered2 .ensures) (c .before .set-bytes .ensures)
+    let r = c .before .before .before in
+    let a = r .before .before .before .before .before in
+    let S = read-same (a .args .follower) (r .before .read-set .ensures) in
+    c .event-from .ensures
+    ∙ sym (called-ruled _ _ _ (a .pre .0) (sym (ready-stage (a .args .chart .now) (a .args .follower) S (r .ready .ensures)) ∙ c .before .enum-told .given .1))
 
 pub event-on-spec : {M : Type 1} → statement M
 event-on-spec =
@@ -95,16 +47,9 @@ event-on-spec =
     (tie.spec
     slice-aggregate-read-set
     read-set-requires
-    byte-requires
-    set-fits-requires
+    ready-requires
+    enum-known-place
+    enum-told
+    event-from-requires
     returns
-    begins-requires
-    image-requires
-    is-empty-requires
-    count-offered-requires
-    contains-requires
-    returns-2
-    count-offered-requires-2
-    set-bytes-requires
-    contains-requires-2
-    returns-3)
+    returns-2)

@@ -1,5 +1,5 @@
-use mathlib.Core.Path.{sym, _∙_}
-use Rattle.follower.proofs.Finds.{restart-refused, restart-passed}
+use mathlib.Core.Path.{refl, sym, _∙_}
+use Rattle.follower.proofs.Calls.{called-refused, called-ruled, restart-alike}
 use borrow.Author.Needs.{needs}
 use Rattle.follower.proofs.restart_from.Statement.{statement}
 use Rattle.follower.proofs.restart_from.Tie as tie
@@ -17,11 +17,12 @@ restart-on-requires : tie.Need-restart-on-requires
 restart-on-requires c κs = sym (c .before .before .check .ensures) ∙ c .enum-told .given .1
 
 returns : tie.Need-returns
-returns c = sym (restart-refused _ _ (sym (c .before .before .before .check .ensures) ∙ c .before .place .given .1))
+returns c = sym (called-refused _ _ _ (sym (c .before .before .before .check .ensures) ∙ c .before .place .given .1))
 
 returns-2 : tie.Need-returns-2
 returns-2 c =
-    c .restart-on .ensures ∙ sym (restart-passed _ _ (sym (c .before .before .before .check .ensures) ∙ c .before .enum-told .given .1))
+    c .restart-on .ensures ∙ restart-alike _ _ _
+    ∙ sym (called-ruled _ _ _ (sym (c .before .before .before .check .ensures) ∙ c .before .enum-told .given .1) refl)
 
 pub restart-from-spec : {M : Type 1} → statement M
 restart-from-spec =

@@ -1,32 +1,25 @@
+use Prim.Native.Nat.{ℕ}
 use mathlib.Core.Path.{sym, _∙_, ap}
-use Rattle.follower.specs.declared.Moved.{Moved}
-use Rattle.follower.proofs.Finds.{restart-lent-refused, restart-lent-length, restart-lent-passed}
+use mathlib.Core.List.{List}
+use Rattle.report.specs.declared.Followed.{Followed}
+use Rattle.follower.proofs.Calls.{lent-called, lent-other}
 use borrow.Author.Needs.{needs}
 use Rattle.follower.proofs.restart_lent.Statement.{statement}
 use Rattle.follower.proofs.restart_lent.Tie as tie
 
-check-requires : tie.Need-check-requires
-check-requires c κs = search needs
-
-enum-known-place : tie.Need-enum-known-place
-enum-known-place c = search needs
+other-length-requires : tie.Need-other-length-requires
+other-length-requires c κs = search needs
 
 returns : tie.Need-returns
 returns c =
-    let e = sym (restart-lent-refused _ _ (sym (c .before .before .before .check .ensures) ∙ c .before .place .given .1)) in
-    (ap (λ (m : Moved). m .answer) e, ap (λ (m : Moved). m .follower .set) e)
+    let e = lent-other _ _ _ (c .before .if1 .taken) in
+    (c .other-length .ensures ∙ sym (ap (λ (m : Followed × List ℕ). m .0) e), sym (ap (λ (m : Followed × List ℕ). m .1) e))
 
-enum-told : tie.Need-enum-told
-enum-told c = search needs
+state-of-requires : tie.Need-state-of-requires
+state-of-requires c κs = search needs
 
-returns-2 : tie.Need-returns-2
-returns-2 c =
-    let e = sym (restart-lent-length _ _ (sym (c .before .before .before .check .ensures)
-    ∙ c .before .enum-told .given .1) (c .if1 .taken)) in
-    (ap (λ (m : Moved). m .answer) e, ap (λ (m : Moved). m .follower .set) e)
-
-restart-on-requires : tie.Need-restart-on-requires
-restart-on-requires c κs = sym (c .before .before .before .check .ensures) ∙ c .before .enum-told .given .1
+restart-from-requires : tie.Need-restart-from-requires
+restart-from-requires c κs = search needs
 
 put-state-requires : tie.Need-put-state-requires
 put-state-requires c κs = search needs
@@ -34,23 +27,20 @@ put-state-requires c κs = search needs
 same-length : tie.Need-same-length
 same-length c = search needs
 
-returns-3 : tie.Need-returns-3
-returns-3 c =
+returns-2 : tie.Need-returns-2
+returns-2 c =
     let o = c .before .before .before .before in
-    let passed = sym (o .before .before .before .before .check .ensures) ∙ o .before .before .enum-told .given .1 in
-    let e = o .restart-on .ensures ∙ sym (restart-lent-passed _ _ passed (o .before .if1 .left)) in
-    (ap (λ (m : Moved). m .answer) e, c .before .before .put-state .ensures ∙ ap (λ (m : Moved). m .follower .set) e)
+    let (e, q) = lent-called _ _ (o .before .before .before .if1 .left) (o .before .state-of .ensures) (o .restart-from .ensures) in
+    (e, c .before .before .put-state .ensures ∙ q)
 
 pub restart-lent-spec : {M : Type 1} → statement M
 restart-lent-spec =
     tie.close
     (tie.spec
-    check-requires
-    enum-known-place
+    other-length-requires
     returns
-    enum-told
-    returns-2
-    restart-on-requires
+    state-of-requires
+    restart-from-requires
     put-state-requires
     same-length
-    returns-3)
+    returns-2)

@@ -1,7 +1,8 @@
+use mathlib.Core.Path.{refl}
 use native.Mathlib.Omega.{arith}
 use Rattle.bits.specs.Bits.{Bytes}
 use Rattle.chart.proofs.Checks.{well-formed}
-use Rattle.follower.proofs.Finds.{restart-moves, only-start}
+use Rattle.follower.proofs.Finds.{restart-goes, only-start}
 use borrow.Author.Needs.{needs}
 use Rattle.follower.proofs.restart_on.Statement.{statement}
 use Rattle.follower.proofs.restart_on.Tie as tie
@@ -20,27 +21,21 @@ with-requires c κs =
 begins-requires : tie.Need-begins-requires
 begins-requires c κs = search needs
 
-count-offered-requires : tie.Need-count-offered-requires
-count-offered-requires c κs = search needs
+told-requires : tie.Need-told-requires
+told-requires c κs = search needs
 
 set-bytes-requires : tie.Need-set-bytes-requires
 set-bytes-requires c κs = search needs
 
-contains-requires : tie.Need-contains-requires
-contains-requires c κs = search needs
-
 returns : tie.Need-returns
 returns c =
-    let a = c .before .before .before .before .before .before .before .before .before in
-    let B : Bytes (a .args .chart .now) = λ k. omega (
-      arith,
-      c .before .before .before .before .before .before .before .before .shared-slice-known .given k,
-    ) in
-    restart-moves _ (a .pre) B (only-start (a .args .chart .now)
-    (c .before .before .before .before .before .before .before .empty .ensures)
-    (c .before .before .before .before .before .before .byte .ensures .0)
-    (c .before .before .before .before .before .with .ensures)) (c .contains .ensures)
-    (c .before .before .count-offered .ensures) (c .before .set-bytes .ensures)
+    let w = c .before .before .before .before in
+    let k = w .before .before .before in
+    let a = k .before in
+    let B : Bytes (a .args .chart .now) = λ i. omega (arith, k .shared-slice-known .given i) in
+    restart-goes _ (well-formed _ (a .pre)) B
+    (only-start (a .args .chart .now) (w .before .before .empty .ensures) (w .before .byte .ensures .0) (w .with .ensures)) refl
+    (c .before .told .ensures) (c .set-bytes .ensures)
 
 pub restart-on-spec : {M : Type 1} → statement M
 restart-on-spec =
@@ -50,7 +45,6 @@ restart-on-spec =
     byte-requires
     with-requires
     begins-requires
-    count-offered-requires
+    told-requires
     set-bytes-requires
-    contains-requires
     returns)

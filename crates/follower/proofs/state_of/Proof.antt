@@ -1,8 +1,9 @@
 use borrow.Author.Needs.{needs}
-use mathlib.Core.Path.{_≡_, refl}
+use mathlib.Core.Path.{_≡_, refl, ap}
 use Prim.Native.Nat.{_-_, _≤_}
 use native.Mathlib.Omega.{arith}
 use lib.ListN.{length}
+use Rattle.follower.specs.States.{stateIn}
 use Rattle.follower.proofs.Copies.{Copied, copied-none, copied-more, copied-all}
 use Rattle.follower.proofs.state_of.Statement.{statement}
 use Rattle.follower.proofs.state_of.Tie as tie
@@ -34,7 +35,7 @@ loop-again c =
     (i .0, omega (arith, c .before .loop-test .taken), copied-more (c .before .loop-test .taken) (i .2))
 
 returns : tie.Need-returns Inv-loop μ-loop
-returns c = let i = c .before .loop .inv in copied-all (i .0) (c .loop-test .left) (i .2)
+returns c = let i = c .before .loop .inv in ap stateIn (copied-all (i .0) (c .loop-test .left) (i .2))
 
 pub state-of-spec : {M : Type 1} → statement M
 state-of-spec =
