@@ -1,19 +1,20 @@
 -- One node more on the way from the root down.
-use Prim.Native.Nat.{ℕ, zero, suc, _+_, _-_, _<_, _≤_}
+use Prim.Native.Nat.{ℕ, zero, suc, _-_, _<_, _≤_}
 use mathlib.Core.Path.{_≡_, refl, ap, _∙_}
 use mathlib.Core.Bool.{Bool, true, false}
-use mathlib.Core.Logic.{_⊎_, inl, inr, ⊎-elim}
+use mathlib.Core.Logic.{_⊎_, ⊎-elim}
 use mathlib.Core.List.{List, [], _∷_}
 use native.Mathlib.Nat.{eq-or-lt-of-le}
 use native.Mathlib.Numerals.{add-one}
 use native.Mathlib.Omega.{arith}
-use lib.Dec.{eqb, ltb}
+use lib.Dec.{eqb}
 use lib.ListN.{length, getD, set, replicate, length-set, length-replicate}
 use lib.Seq.{getD-set-same}
-use borrow.Author.Tests.{eqb-true, eqb-false, ltb-true, ltb-false}
-use Rattle.theory.specs.Nodes.{Op, op-sum, op-product, op-star, Node, bad, dead, leaf, bin, one, usesIn, uses, follow, aboveLeft, after}
+use borrow.Author.Tests.{eqb-true, eqb-false}
+use Rattle.theory.specs.Nodes.{Op, op-sum, op-product, op-star, Node, bad, dead, leaf, bin, usesIn, follow, aboveLeft, after}
 use Rattle.theory.specs.ExpressionCharts.{vertexOf}
 use Rattle.theory.proofs.Up.{after-left, after-right, after-last}
+use Rattle.theory.proofs.Climbs.{operand, user}
 use Rattle.expression.specs.Table.{kindOf, leftOf, rightOf, node, isGood, count, opOf, WellFormed}
 use Rattle.expression.specs.Targets.{targetOf, aimLeft, aim, Targets}
 use Rattle.expression.proofs.Table.{node-low, tree}
@@ -24,25 +25,6 @@ pub record Aimed (s : List ℕ) (k : ℕ) (a : List ℕ) : Type 0 where
   pub long : length a ≡ 128
   pub root : getD a (count s - 1) 0 ≡ targetOf s (count s - 1)
   pub operand : (p j : ℕ) → k ≤ p → p < count s → 0 < usesIn (node s p) j → getD a j 0 ≡ targetOf s j
-
--- a node that uses j has it for an operand
-operand : (o : Op) (l r j : ℕ) → 0 < usesIn (bin o l r) j → (l ≡ j) ⊎ (r ≡ j)
-operand o l r j h = go (eqb l j) (eqb r j) refl refl h
-  where
-    go : (a b : Bool) → eqb l j ≡ a → eqb r j ≡ b → 0 < one a + one b → (l ≡ j) ⊎ (r ≡ j)
-    go true b p q h = inl (eqb-true l j p)
-    go false true p q h = inr (eqb-true r j q)
-    go false false p q h = absurd (omega arith)
-
--- a node that is used has a user
-user : (nd : ℕ → Node) (n j : ℕ) → 0 < uses nd n j → (p : ℕ) × (p < n) × (0 < usesIn (nd p) j)
-unfolding uses
-user nd zero j h = absurd (omega arith)
-user nd (suc n) j h = go (ltb 0 (usesIn (nd n) j)) refl (user nd n j)
-  where
-    go : (b : Bool) → ltb 0 (usesIn (nd n) j) ≡ b → (0 < uses nd n j → (p : ℕ) × (p < n) × (0 < usesIn (nd p) j)) → (p : ℕ) × (p < suc n) × (0 < usesIn (nd p) j)
-    go true e i = (n, omega arith, ltb-true 0 _ e)
-    go false e i = let z = ltb-false 0 (usesIn (nd n) j) e in let u = i (omega arith) in (u .0, omega arith, u .2)
 
 -- storing what is right keeps what is right
 set-keep : (a : List ℕ) (i j v x : ℕ) → (i ≡ j → v ≡ x) → getD a j 0 ≡ x → getD (set a i v) j 0 ≡ x
@@ -78,7 +60,7 @@ module _ (s : List ℕ) (w : WellFormed s) where
   root-target = rw (after-last (node s) (count s) (tree s w) (count s - 1) (let z = w .sized .some in omega arith))
 
   -- the node's own target is there: its user is above it
-  own-target : (k : ℕ) (a : List ℕ) → k < count s → Aimed s (suc k) a → getD a k 0 ≡ targetOf s k
+  pub own-target : (k : ℕ) (a : List ℕ) → k < count s → Aimed s (suc k) a → getD a k 0 ≡ targetOf s k
   own-target k a h i = ⊎-elim (λ (e : suc k ≡ count s). let d : k ≡ count s - 1 = omega arith in rw d (i .root)) used (eq-or-lt-of-le h)
     where
       above : (p : ℕ) (v : Node) → node s p ≡ v → 0 < usesIn v k → k < p

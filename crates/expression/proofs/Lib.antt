@@ -5,6 +5,7 @@ pub mod Uses
 pub mod Answers
 pub mod Aims
 pub mod Trees
+pub mod Lent
 pub mod KeyLaws
 pub mod Under
 pub mod Firsts

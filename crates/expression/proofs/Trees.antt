@@ -11,12 +11,15 @@ use lib.Dec.{eqb}
 use lib.ListN.{length, getD, set, replicate, length-set, length-replicate}
 use lib.Seq.{getD-set-same, getD-set-other}
 use borrow.Author.Tests.{eqb-true, eqb-false, eq-eqb, ne-eqb}
+use Rattle.report.specs.declared.Stage.the-variants.{Passed}
 use Rattle.theory.specs.Nodes.{Op, op-sum, op-product, op-star, Node, bad, dead, leaf, bin, one, usesIn, uses}
+use Rattle.theory.proofs.Up.{uses-of}
 use Rattle.expression.specs.Table.{kindOf, leftOf, rightOf, node, isGood, count, opOf, Sized, WellFormed}
-use Rattle.expression.specs.Targets.{aimLeft, aim, Targets, Turn}
+use Rattle.expression.specs.Targets.{aimLeft, aim, Ready, Turn, TargetsAfter}
 use Rattle.expression.proofs.Table.{node-low}
 use Rattle.expression.proofs.View.{at-bin, not-bin}
-use Rattle.expression.proofs.Aims.{Aimed, aim-none, aim-both, aim-from, aim-next, aim-end}
+use Rattle.expression.proofs.KeyLaws.{target-le}
+use Rattle.expression.proofs.Aims.{Aimed, own-target, aim-none, aim-both, aim-from, aim-next, aim-end}
 
 -- ONE TURN
 tests : (x y z : Bool) → (x && y) && not z ≡ true → (x ≡ true) × (y ≡ true) × (z ≡ false)
@@ -27,12 +30,12 @@ tests true true false e = (refl, refl, refl)
 
 module _ (s : List ℕ) (k : ℕ) (good : isGood (node s k) ≡ true) (a : List ℕ) (aimed : getD a k 0 ≢ 255) where
   pub turn-none : kindOf s k < 2 → Turn s k a a
-  turn-none h = record { good = good; aimed = aimed; fresh = λ o l r e. absurd (not-bin s k good h o l r e); is = aim-none s k good a h }
+  turn-none h = record { ready = record { good = good; aimed = aimed; fresh = λ o l r e. absurd (not-bin s k good h o l r e) }; is = aim-none s k good a h }
 
   pub turn-both : (m l r t : ℕ) → 2 ≤ kindOf s k → m ≡ kindOf s k → l ≡ leftOf s k → r ≡ rightOf s k
       → t ≡ aimLeft (opOf m) k r (getD a k 0)
       → (eqb (getD a l 0) 255 && eqb (getD a r 0) 255) && not (eqb l r) ≡ true → Turn s k a (set (set a l t) r (getD a k 0))
-  turn-both m l r t h em el er et q = record { good = good; aimed = aimed; fresh = fresh; is = aim-both s k good a m l r t h em el er et }
+  turn-both m l r t h em el er et q = record { ready = record { good = good; aimed = aimed; fresh = fresh }; is = aim-both s k good a m l r t h em el er et }
     where
       is : node s k ≡ bin (opOf (kindOf s k)) l r
       is = rw (el, er) (at-bin s k good h)
@@ -47,6 +50,15 @@ module _ (s : List ℕ) (k : ℕ) (good : isGood (node s k) ≡ true) (a : List 
               let z = tests (eqb (getD a l 0) 255) (eqb (getD a r 0) 255) (eqb l r) q in
               rw (u, v) (eqb-true _ 255 (z .0), eqb-true _ 255 (z .1), eqb-false l r (z .2))
 
+-- where the last test fails the turn may not be had
+module _ (s : List ℕ) (k : ℕ) (good : isGood (node s k) ≡ true) (a : List ℕ) where
+  pub no-turn : (l r : ℕ) → 2 ≤ kindOf s k → l ≡ leftOf s k → r ≡ rightOf s k
+      → (eqb (getD a l 0) 255 && eqb (getD a r 0) 255) && not (eqb l r) ≡ false → Ready s k a → ⊥
+  no-turn l r h el er q d =
+      let is : node s k ≡ bin (opOf (kindOf s k)) l r = rw (el, er) (at-bin s k good h) in
+      let (nl, nr, z) = d .fresh _ l r is in
+      false≢true (sym q ∙ rw (eq-eqb (getD a l 0) 255 nl, eq-eqb (getD a r 0) 255 nr, ne-eqb l r z))
+
 -- 1 where node j has a target, 0 where it has none yet
 abbrev marked : List ℕ → ℕ → ℕ
 marked a j = one (not (eqb (getD a j 0) 255))
@@ -56,6 +68,12 @@ marked-no a j e = rw (eq-eqb (getD a j 0) 255 e)
 
 marked-yes : (a : List ℕ) (j : ℕ) → getD a j 0 ≢ 255 → marked a j ≡ 1
 marked-yes a j d = rw (ne-eqb (getD a j 0) 255 d)
+
+marked-none : (a : List ℕ) (j : ℕ) → marked a j ≡ 0 → getD a j 0 ≡ 255
+marked-none a j e = elim (ℕ-discrete (getD a j 0) 255) [
+  | yes q ↦ q
+  | no d ↦ absurd (let m = marked-yes a j d in omega arith)
+]
 
 -- what the turn of node k, where v stands, does: it marks what the node uses, and keeps what has had its turn
 record Moves (k : ℕ) (v : Node) (a b : List ℕ) : Type 0 where
@@ -117,15 +135,26 @@ module _ (k : ℕ) (a : List ℕ) (few : k < 127) (long : length a ≡ 128) (aim
             ∙ getD-set-other a l j x 0 (λ z. omega (arith, z, hl));
       }
 
+-- what a node uses: its operands, and one that is both twice
+left-used : (o : Op) (l r : ℕ) → 1 ≤ usesIn (bin o l r) l
+left-used o l r = rw (eq-eqb l l refl) (omega arith)
+
+right-used : (o : Op) (l r : ℕ) → 1 ≤ usesIn (bin o l r) r
+right-used o l r = rw (eq-eqb r r refl) (omega arith)
+
+twice-used : (o : Op) (l r : ℕ) → l ≡ r → 2 ≤ usesIn (bin o l r) l
+twice-used o l r e = rw (← e, eq-eqb l l refl) (omega arith)
+
 -- ALL TURNS
 -- the nodes from k on have had their turn: they are well formed and have targets, and the others that have one are their
--- operands, each once
+-- operands, each once; past the nodes nothing is stored
 pub record Descent (s : List ℕ) (k : ℕ) (a : List ℕ) : Type 0 where
   pub long : length a ≡ 128
   pub good : (p : ℕ) → k ≤ p → p < count s → isGood (node s p) ≡ true
   pub reached : (p : ℕ) → k ≤ p → p < count s → getD a p 0 ≢ 255
   pub counted : (j : ℕ) → suc j < count s → uses (node s) (count s) j ≡ uses (node s) k j + marked a j
   pub targets : WellFormed s → Aimed s k a
+  pub past : (p : ℕ) → count s ≤ p → getD a p 0 ≡ getD (replicate 128 255) p 0
 
 -- no node has one at the start
 none : (m j : ℕ) → j < m → getD (replicate {A = ℕ} m 255) j 0 ≡ 255
@@ -144,6 +173,7 @@ module _ (s : List ℕ) (sized : Sized s) where
         let c = marked-no start j z in
         rw (e, rw e at c) (omega arith);
     targets = λ w. aim-from s w n start e long (rw (← e) (getD-set-same (replicate 128 255) (n - 1) 0 0 (omega arith)));
+    past = λ p h. getD-set-other (replicate 128 255) (n - 1) p 0 0 (λ z. omega (arith, z, h, e, sized .some));
   })
     where
       start : List ℕ
@@ -156,29 +186,51 @@ module _ (s : List ℕ) (sized : Sized s) where
   unfolding uses
   descent-next k a b h i t = record {
     long = move .long ∙ i .long;
-    good = λ p l g. ⊎-elim (λ (e : k ≡ p). rw (← e) (t .good)) (λ (d : k < p). i .good p d g) (eq-or-lt-of-le l);
+    good = λ p l g. ⊎-elim (λ (e : k ≡ p). rw (← e) (t .ready .good)) (λ (d : k < p). i .good p d g) (eq-or-lt-of-le l);
     reached = λ p l g.
         rw (move .keeps p l)
-        (⊎-elim (λ (e : k ≡ p). rw (← e) (t .aimed)) (λ (d : k < p). i .reached p d g) (eq-or-lt-of-le l));
+        (⊎-elim (λ (e : k ≡ p). rw (← e) (t .ready .aimed)) (λ (d : k < p). i .reached p d g) (eq-or-lt-of-le l));
     counted = λ j g. let c = i .counted j g in let m = move .marks j in omega arith;
     targets = λ w. aim-next s w k a b h (i .targets w) (t .is);
+    past = λ p g. move .keeps p (omega (arith, h, g)) ∙ i .past p g;
   }
     where
       move : Moves k (node s k) a b
       move =
           rw (t .is)
-          (moves k a (omega (arith, sized .few)) (i .long) (t .aimed) (node s k) (λ o l r e.
+          (moves k a (omega (arith, sized .few)) (i .long) (t .ready .aimed) (node s k) (λ o l r e.
           let b = node-low s k o l r e in
-          let f = t .fresh o l r e in
+          let f = t .ready .fresh o l r e in
           (b .0, b .1, f .0, f .1, f .2)))
 
-  pub descent-end : (a : List ℕ) → Descent s 0 a → WellFormed s × Targets s a
+  -- where the nodes are a tree, the next one may have its turn
+  pub descent-ready : WellFormed s → (k : ℕ) (a : List ℕ) → k < count s → Descent s (suc k) a → Ready s k a
+  descent-ready w k a h i = record {
+    good = w .good k h;
+    aimed = λ z. omega (arith, z, own-target s w k a h (i .targets w), target-le s w k h, sized .few);
+    fresh = λ o l r e.
+        let b = node-low s k o l r e in
+        let ul : usesIn (bin o l r) l ≤ uses (node s) (suc k) l = rw e at (uses-of (node s) (suc k) k l (omega arith)) in
+        let ur : usesIn (bin o l r) r ≤ uses (node s) (suc k) r = rw e at (uses-of (node s) (suc k) k r (omega arith)) in
+        let gl : suc l < count s = omega (arith, h, b .0) in
+        let gr : suc r < count s = omega (arith, h, b .1) in (
+          none-yet l gl (omega (arith, ul, left-used o l r)),
+          none-yet r gr (omega (arith, ur, right-used o l r)),
+          λ z. omega (arith, ul, twice-used o l r z, i .counted l gl, w .once l gl),
+        );
+  }
+    where
+      none-yet : (j : ℕ) → suc j < count s → 1 ≤ uses (node s) (suc k) j → getD a j 0 ≡ 255
+      none-yet j g u = marked-none a j (omega (arith, u, i .counted j g, w .once j g))
+
+  -- when all have had it they are a tree, and their targets are there
+  pub descent-end : (a b : List ℕ) → a ≡ replicate 128 255 → Descent s 0 b → WellFormed s × TargetsAfter s Passed a b
   unfolding uses
-  descent-end a i = (well, aim-end s well a (i .targets well))
+  descent-end a b q i = (well, record { found = λ e. aim-end s well b (i .targets well); past = rw q (i .past); kept = λ p e. absurd (let z : _≡_ {A = ℕ} 0 1 = cc in omega arith) })
     where
       well : WellFormed s
       well = record {
         sized = sized;
         good = λ p h. i .good p (omega arith) h;
-        once = λ j h. let c = i .counted j h in let m = marked-yes a j (i .reached j (omega arith) (omega arith)) in omega arith;
+        once = λ j h. let c = i .counted j h in let m = marked-yes b j (i .reached j (omega arith) (omega arith)) in omega arith;
       }

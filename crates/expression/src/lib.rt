@@ -23,7 +23,7 @@ use words::first_words;
 ghost use mathlib.Core.Path.{_≡_};
 ghost use lib.ListN.{length, replicate};
 ghost use Rattle.expression.specs.Table.{checkOf};
-ghost use Rattle.expression.specs.Targets.{Targets};
+ghost use Rattle.expression.specs.Targets.{Targets, TargetsAfter};
 ghost use Rattle.expression.specs.Body.{bodyOf, writtenOf, bufferOf};
 ghost use Rattle.chart.specs.Numbered.{Lists, Numbered};
 
@@ -38,23 +38,20 @@ pub fn check(nodes: &[u8]) -> Stage
 }
 
 // The same checks, and where every node of nodes that pass leads, into an array of 255: found in one pass. Only a
-// refusal needs `check`, which finds its place.
+// refusal needs `check_nodes`, which finds its place; the array is then 255 again.
 pub fn check_with_targets(nodes: &[u8], targets: &mut [u8; 128]) -> Stage
     requires { ⌜ now targets ≡ replicate 128 255 ⌝ }
     ensures { λ r. ⌜ (r ≡ checkOf (now (nodes .entry)))
-        × (r ≡ Stage.Passed → Targets (now (nodes .entry)) (now (targets .exit))) ⌝ }
+        × TargetsAfter (now (nodes .entry)) r (now (targets .entry)) (now (targets .exit)) ⌝ }
 {
-    if length_ok(nodes) {
-        if try_find_targets(nodes, node_count(nodes), targets) {
-            return Stage::Passed;
-        }
+    if !length_ok(nodes) {
+        return Stage::Refused(Place::NodesLength(nodes.len()));
     }
-    let stage = check(nodes);
-    let Stage::Passed = stage else {
-        return stage;
-    };
-    *targets = find_targets(nodes, node_count(nodes));
-    stage
+    if try_find_targets(nodes, node_count(nodes), targets) {
+        return Stage::Passed;
+    }
+    *targets = [255u8; 128];
+    check_nodes(nodes)
 }
 
 // Lists the steps of the expression's chart as its leaves come: the keys, their number, and a word for each vertex,

@@ -5,12 +5,14 @@ use super::nodes::kind_of;
 use super::nodes::left_of;
 use super::nodes::node_ok;
 use super::nodes::right_of;
+use report::Stage;
 ghost use mathlib.Core.Path.{_≡_};
-ghost use mathlib.Core.Bool.{true};
+ghost use mathlib.Core.Bool.{true, false};
+ghost use mathlib.Core.Logic.{_↔_};
 ghost use Prim.Native.Nat.{_<_, _≤_};
 ghost use lib.ListN.{replicate};
 ghost use Rattle.expression.specs.Table.{node, count, Sized, WellFormed, opOf};
-ghost use Rattle.expression.specs.Targets.{aimLeft, aim, Targets, Turn};
+ghost use Rattle.expression.specs.Targets.{aimLeft, aim, Targets, Ready, Turn, TargetsAfter};
 
 // The vertex after the left operand of node k: document 01's climb from there goes to the right
 // operand of a product, to a star itself, and on from a sum.
@@ -59,11 +61,12 @@ pub(crate) fn find_targets(nodes: &[u8], n: usize) -> [u8; 128]
 }
 
 // Where the operands of node k lead, of nodes that may be no tree. 255 is no target: a node has it until a node above
-// has had it as an operand. True only where node k is well formed and has a target, and its operands are two nodes that
-// have none.
+// has had it as an operand. True exactly where node k is well formed and has a target, and its operands are two nodes
+// that have none.
 fn try_aim_operands(nodes: &[u8], k: usize, targets: &mut [u8; 128]) -> bool
     requires { ⌜ Sized (now nodes) × (k < count (now nodes)) ⌝ }
-    ensures { λ r. ⌜ (r ≡ true → Turn (now (nodes .entry)) k (now (targets .entry)) (now (targets .exit))) ⌝ }
+    ensures { λ r. ⌜ (r ≡ true → Turn (now (nodes .entry)) k (now (targets .entry)) (now (targets .exit)))
+        × (r ≡ false → Ready (now (nodes .entry)) k (now (targets .entry)) → ⊥) ⌝ }
 {
     if !node_ok(nodes, k) {
         return false;
@@ -84,11 +87,11 @@ fn try_aim_operands(nodes: &[u8], k: usize, targets: &mut [u8; 128]) -> bool
     fresh
 }
 
-// Where every node leads, into an array of 255. True only where the nodes are a tree, so that 11 and 12 pass.
+// Where every node leads, into an array of 255. True exactly where 11 and 12 pass.
 pub(crate) fn try_find_targets(nodes: &[u8], n: usize, targets: &mut [u8; 128]) -> bool
     requires { ⌜ Sized (now nodes) × (n ≡ count (now nodes)) × (now targets ≡ replicate 128 255) ⌝ }
-    ensures { λ r. ⌜ (r ≡ true
-        → WellFormed (now (nodes .entry)) × Targets (now (nodes .entry)) (now (targets .exit))) ⌝ }
+    ensures { λ r. ⌜ ((r ≡ true) ↔ WellFormed (now (nodes .entry)))
+        × (r ≡ true → TargetsAfter (now (nodes .entry)) Stage.Passed (now (targets .entry)) (now (targets .exit))) ⌝ }
 {
     targets[n - 1] = 0;
     let mut k = n;

@@ -146,7 +146,7 @@ check-relation-requires c κs =
     let k = b .before .before in
     let h = b .enum-told3 .given .1 in (
       (sym (k .check-with-targets .ensures .0) ∙ h, sym (m .check .ensures) ∙ d .enum-told5 .given .1),
-      k .check-with-targets .ensures .1 h,
+      k .check-with-targets .ensures .1 .found h,
       s .begins .ensures,
     )
 
