@@ -13,5 +13,6 @@ pub mod WordLaws
 pub mod Stores
 pub mod Bodies
 pub mod Chart
+pub mod Occurrences
 pub mod Numbers
 pub mod Listings
