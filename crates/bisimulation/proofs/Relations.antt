@@ -11,7 +11,6 @@ use borrow.Author.Tests.{ltb-true, ltb-false}
 use Rattle.theory.specs.Least.{Earlier, FirstPair}
 use Rattle.theory.specs.Tests.{Decides, firstRow, lowest}
 use Rattle.theory.specs.Systems.{System, Bisimulation}
-use Rattle.theory.specs.Transitions.{chart}
 use Rattle.theory.specs.Relations.{indexed, RelationOutcome, PairFails, fails-43, fails-44, fails-45, RelationChecked, all-pass, fails-42, fails-pair}
 use Rattle.theory.proofs.Search.{same-or-earlier}
 use Rattle.theory.proofs.Tests.{not-so, decides-and, decides-eqb, decides-leb, first-pair}
@@ -21,6 +20,7 @@ use Rattle.report.specs.declared.Stage.{Stage}
 use Rattle.report.specs.declared.Stage.the-variants.{Passed, Refused}
 use Rattle.chart.specs.Bodies.{verticesOf, startOf}
 use Rattle.chart.specs.Steps.{transitionsOf}
+use Rattle.chart.specs.Systems.{systemOf}
 use Rattle.chart.proofs.Relations.{acts-member}
 use Rattle.bisimulation.specs.Relations.{indexedOf, relatedTest, strayBitTest, relationStage, relationOutcomeOf, relationOf}
 use Rattle.bisimulation.specs.Answers.{Related, StrayBit, RelationFits}
@@ -129,7 +129,7 @@ indexed-member b u a w = (
 back-again : {A B : Type 0} → A ↔ B → B ↔ A
 back-again (f, g) = (g, f)
 
-pub indexed-chart : (e b : List ℕ) (R : ℕ → ℕ → Type 0) → Bisimulation (indexed (indexedOf e)) (indexed (indexedOf b)) R ↔ Bisimulation (chart (startOf e) (transitionsOf e)) (chart (startOf b) (transitionsOf b)) R
+pub indexed-chart : (e b : List ℕ) (R : ℕ → ℕ → Type 0) → Bisimulation (indexed (indexedOf e)) (indexed (indexedOf b)) R ↔ Bisimulation (systemOf e) (systemOf b) R
 indexed-chart e b R = (
   same-steps (indexed-member e) (indexed-member b) (startOf e) (startOf b) R,
   same-steps (λ u a w. back-again (indexed-member e u a w)) (λ u a w. back-again (indexed-member b u a w)) (startOf e) (startOf b) R,
@@ -176,7 +176,7 @@ module _ (e b relation : List ℕ) where
   -- NOTHING FAILS EXACTLY FOR A BISIMULATION OF THE TWO CHARTS
   pub relation-iff-bisimulation : (relationOf e b relation ≡ Passed)
       ↔ ((length relation ≡ 16 * verticesOf e) × ((u v : ℕ) → Related relation u v → (u < verticesOf e) × (v < verticesOf b))
-      × Bisimulation (chart (startOf e) (transitionsOf e)) (chart (startOf b) (transitionsOf b)) (Related relation))
+      × Bisimulation (systemOf e) (systemOf b) (Related relation))
   relation-iff-bisimulation = (
     (λ q. parts (relation-says Passed .0 q)),
     (λ (w, i, B). relation-says Passed .1 (passed (record { whole = w; inside = i }) B)),
@@ -184,5 +184,5 @@ module _ (e b relation : List ℕ) where
     where
       parts : RelationAnswer e b relation Passed
           → (length relation ≡ 16 * verticesOf e) × ((u v : ℕ) → Related relation u v → (u < verticesOf e) × (v < verticesOf b))
-          × Bisimulation (chart (startOf e) (transitionsOf e)) (chart (startOf b) (transitionsOf b)) (Related relation)
+          × Bisimulation (systemOf e) (systemOf b) (Related relation)
       parts (passed F B) = (F .whole, F .inside, B)

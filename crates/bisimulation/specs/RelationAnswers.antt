@@ -6,14 +6,13 @@ use Prim.Native.Nat.{ℕ, _*_}
 use lib.ListN.{length}
 use Rattle.theory.specs.Least.{Least, Earlier, FirstPair}
 use Rattle.theory.specs.Systems.{Bisimulation, converse}
-use Rattle.theory.specs.Transitions.{chart}
 use Rattle.theory.specs.Relations.{Unmatched, AllMatched, EndsAgree}
 use Rattle.report.specs.declared.Place.the-variants.{RelationLength, PairNoVertex, PairStarts}
 use Rattle.report.specs.declared.Place.the-variants.{PairEnds, PairExpressionStep, PairChartStep}
 use Rattle.report.specs.declared.Stage.{Stage}
 use Rattle.report.specs.declared.Stage.the-variants.{Passed, Refused}
 use Rattle.chart.specs.Bodies.{verticesOf, startOf}
-use Rattle.chart.specs.Steps.{transitionsOf}
+use Rattle.chart.specs.Systems.{systemOf}
 use Rattle.bisimulation.specs.Relations.{indexedOf}
 use Rattle.bisimulation.specs.Answers.{Related, StrayBit, RelationFits, Passes}
 
@@ -36,8 +35,7 @@ module _ (expression body relation : List ℕ) where
   pub data RelationAnswer : Stage → Type 0 where
     -- every bit is one of a vertex, and the bits are a bisimulation of the two charts
     passed : RelationFits expression body relation
-        → Bisimulation (chart (startOf expression) (transitionsOf expression))
-        (chart (startOf body) (transitionsOf body)) (Related relation)
+        → Bisimulation (systemOf expression) (systemOf body) (Related relation)
         → RelationAnswer Passed
     -- 40
     other-length : length relation ≢ 16 * verticesOf expression

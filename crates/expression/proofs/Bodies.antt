@@ -14,16 +14,16 @@ use Rattle.report.specs.declared.Stage.the-variants as stage
 use Rattle.report.specs.declared.Written.the-variants as written
 use Rattle.theory.proofs.Counts.{transitions-le}
 use Rattle.expression.specs.Table.{node, count, checkOf, WellFormed}
-use Rattle.expression.specs.Body.{fourOf, chartOf, bodyOf, writtenOf, bufferOf}
+use Rattle.expression.specs.Body.{fourOf, chartTransitions, bodyOf, writtenOf, bufferOf}
 use Rattle.expression.proofs.Table.{tree, well-formed→passed}
 use Rattle.expression.proofs.Stores.{length-flat}
 
-pub body-long : (s : List ℕ) → length (bodyOf s) ≡ 4 + 4 * length (chartOf s)
+pub body-long : (s : List ℕ) → length (bodyOf s) ≡ 4 + 4 * length (chartTransitions s)
 unfolding bodyOf fourOf
-body-long s = let l = length-flat (chartOf s) in omega arith
+body-long s = let l = length-flat (chartTransitions s) in omega arith
 
-pub chart-few : (s : List ℕ) → WellFormed s → length (chartOf s) ≤ 8192
-unfolding chartOf
+pub chart-few : (s : List ℕ) → WellFormed s → length (chartTransitions s) ≤ 8192
+unfolding chartTransitions
 chart-few s w = transitions-le (node s) (count s) (tree s w) (w .sized .few)
 
 -- the refusal of the nodes

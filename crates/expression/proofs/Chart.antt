@@ -20,7 +20,7 @@ use Rattle.theory.proofs.ExpressionCharts.{transitions-ascend, chart-sound, cha
 use Rattle.theory.proofs.Bounds.{transition-bounds}
 use Rattle.expression.specs.Table.{node, count, checkOf}
 use Rattle.bits.specs.Bits.{Bytes}
-use Rattle.expression.specs.Body.{fourOf, flat, chartOf, bodyOf, writtenAfter, writtenOf, bufferOf}
+use Rattle.expression.specs.Body.{fourOf, flat, chartTransitions, bodyOf, writtenAfter, writtenOf, bufferOf}
 use Rattle.chart.specs.Bodies.{verticesOf, startOf, countOf, padOf, keyAt, HeaderFits, TransitionFits}
 use Rattle.chart.specs.Checks as chart
 use Rattle.chart.specs.Steps.{transitionAt, transitionsOf}
@@ -56,34 +56,34 @@ pub body-start : (s : List ℕ) → startOf (bodyOf s) ≡ count s
 unfolding bodyOf fourOf
 body-start s = refl
 
-pub body-count : (s : List ℕ) → countOf (bodyOf s) ≡ length (chartOf s)
+pub body-count : (s : List ℕ) → countOf (bodyOf s) ≡ length (chartTransitions s)
 unfolding bodyOf fourOf
 body-count s = omega arith
 
-module _ (s : List ℕ) (i : ℕ) (h : i < length (chartOf s)) where
-  at-field : (c : ℕ) {x : ℕ} → getD (flat (chartOf s)) (4 * i + c) 0 ≡ x → getD (bodyOf s) (4 * i + 4 + c) 0 ≡ x
+module _ (s : List ℕ) (i : ℕ) (h : i < length (chartTransitions s)) where
+  at-field : (c : ℕ) {x : ℕ} → getD (flat (chartTransitions s)) (4 * i + c) 0 ≡ x → getD (bodyOf s) (4 * i + 4 + c) 0 ≡ x
   unfolding bodyOf fourOf
   at-field c e = let q : 4 * i + 4 + c ≡ suc (suc (suc (suc (4 * i + c)))) = omega arith in rw q e
 
-  at-from : {x : ℕ} → getD (flat (chartOf s)) (4 * i) 0 ≡ x → getD (bodyOf s) (4 * i + 4) 0 ≡ x
+  at-from : {x : ℕ} → getD (flat (chartTransitions s)) (4 * i) 0 ≡ x → getD (bodyOf s) (4 * i + 4) 0 ≡ x
   unfolding bodyOf fourOf
   at-from e = let q : 4 * i + 4 ≡ suc (suc (suc (suc (4 * i)))) = omega arith in rw q e
 
-  body-at : transitionAt (bodyOf s) i ≡ getD (chartOf s) i (0, 0, 0)
-  body-at = let r = flat-at (chartOf s) i h in λ j. (at-from (r .0) j, at-field 1 (r .1) j, at-field 2 (r .2) j)
+  body-at : transitionAt (bodyOf s) i ≡ getD (chartTransitions s) i (0, 0, 0)
+  body-at = let r = flat-at (chartTransitions s) i h in λ j. (at-from (r .0) j, at-field 1 (r .1) j, at-field 2 (r .2) j)
 
   pad-at : padOf (bodyOf s) i ≡ 0
-  pad-at = at-field 3 (flat-at (chartOf s) i h .3)
+  pad-at = at-field 3 (flat-at (chartTransitions s) i h .3)
 
 -- THE BODY'S TRANSITIONS are those of the expression's chart, in this order
-pub body-transitions : (s : List ℕ) → transitionsOf (bodyOf s) ≡ chartOf s
+pub body-transitions : (s : List ℕ) → transitionsOf (bodyOf s) ≡ chartTransitions s
 body-transitions s =
-    ext-getD (0, 0, 0) (transitionsOf (bodyOf s)) (chartOf s) (transitions-length (bodyOf s) ∙ body-count s)
-    (λ i h. let g : i < length (chartOf s) = omega (arith, transitions-length (bodyOf s), body-count s) in transitions-at (bodyOf s) i (0, 0, 0) (omega (arith, body-count s)) ∙ body-at s i g)
+    ext-getD (0, 0, 0) (transitionsOf (bodyOf s)) (chartTransitions s) (transitions-length (bodyOf s) ∙ body-count s)
+    (λ i h. let g : i < length (chartTransitions s) = omega (arith, transitions-length (bodyOf s), body-count s) in transitions-at (bodyOf s) i (0, 0, 0) (omega (arith, body-count s)) ∙ body-at s i g)
 
 -- THE TRANSITIONS
-pub passed-chart : (s : List ℕ) → checkOf s ≡ stage.Passed → IsChart s (chartOf s)
-unfolding chartOf
+pub passed-chart : (s : List ℕ) → checkOf s ≡ stage.Passed → IsChart s (chartTransitions s)
+unfolding chartTransitions
 passed-chart s e =
     let w = passed→well-formed s e in
     let t = tree s w in
@@ -117,13 +117,13 @@ bytes-flat (x ∷ ts) h =
 
 -- a body of bytes
 pub passed-bytes : (s : List ℕ) → Bytes s → checkOf s ≡ stage.Passed → Bytes (bodyOf s)
-unfolding bodyOf chartOf
+unfolding bodyOf chartTransitions
 passed-bytes s bytes e =
     let w = passed→well-formed s e in
     let few = w .sized .few in
     let many = chart-few s w in
-    bytes-four (suc (count s)) (count s) (length (chartOf s) % 256) (length (chartOf s) / 256) (flat (chartOf s)) (omega arith) (omega arith) (omega arith) (omega arith)
-    (bytes-flat (chartOf s) (λ x m.
+    bytes-four (suc (count s)) (count s) (length (chartTransitions s) % 256) (length (chartTransitions s) / 256) (flat (chartTransitions s)) (omega arith) (omega arith) (omega arith) (omega arith)
+    (bytes-flat (chartTransitions s) (λ x m.
     let b = transition-bounds (node s) (count s) (tree s w) x m in
     let a = leaf-action s (b .3 .0) (x .1) (b .3 .2) in
     let h = bytes (4 * b .3 .0 + 1) in
@@ -135,10 +135,10 @@ key-ascends x y p q (inl h) = omega arith
 key-ascends x y p q (inr (e, inl h)) = omega arith
 key-ascends x y p q (inr (e, inr (f, h))) = omega arith
 
-key-at : (s : List ℕ) (i : ℕ) → i < length (chartOf s) → let x = getD (chartOf s) i (0, 0, 0) in keyAt (bodyOf s) i ≡ 65536 * x .0 + 256 * x .1 + x .2
+key-at : (s : List ℕ) (i : ℕ) → i < length (chartTransitions s) → let x = getD (chartTransitions s) i (0, 0, 0) in keyAt (bodyOf s) i ≡ 65536 * x .0 + 256 * x .1 + x .2
 key-at s i h = ap (λ (x : Transition). 65536 * x .0 + 256 * x .1 + x .2) (body-at s i h)
 
-module _ (s : List ℕ) (c : IsChart s (chartOf s)) where
+module _ (s : List ℕ) (c : IsChart s (chartTransitions s)) where
   header-fits : HeaderFits (bodyOf s)
   unfolding bodyOf fourOf
   header-fits = let l = body-long s in let n = body-count s in record {
@@ -151,10 +151,10 @@ module _ (s : List ℕ) (c : IsChart s (chartOf s)) where
     whole = omega arith;
   }
 
-  transition-fits : (i : ℕ) → i < length (chartOf s) → TransitionFits (bodyOf s) i
+  transition-fits : (i : ℕ) → i < length (chartTransitions s) → TransitionFits (bodyOf s) i
   transition-fits i h =
-      let x : Transition = getD (chartOf s) i (0, 0, 0) in
-      let b = c .fits x (member-at precedes precedes-order (0, 0, 0) (chartOf s) i h) in
+      let x : Transition = getD (chartTransitions s) i (0, 0, 0) in
+      let b = c .fits x (member-at precedes precedes-order (0, 0, 0) (chartTransitions s) i h) in
       let r : transitionAt (bodyOf s) i ≡ x = body-at s i h in
       let v = body-vertices s in
       record {
@@ -165,20 +165,20 @@ module _ (s : List ℕ) (c : IsChart s (chartOf s)) where
         pad-zero = pad-at s i h;
       }
 
-  keys-ascend : Bytes (bodyOf s) → (i j : ℕ) → i < j → j < length (chartOf s) → keyAt (bodyOf s) i < keyAt (bodyOf s) j
+  keys-ascend : Bytes (bodyOf s) → (i j : ℕ) → i < j → j < length (chartTransitions s) → keyAt (bodyOf s) i < keyAt (bodyOf s) j
   keys-ascend bytes i j h g =
-      let k : i < length (chartOf s) = omega arith in
-      let x : Transition = getD (chartOf s) i (0, 0, 0) in
-      let y : Transition = getD (chartOf s) j (0, 0, 0) in
+      let k : i < length (chartTransitions s) = omega arith in
+      let x : Transition = getD (chartTransitions s) i (0, 0, 0) in
+      let y : Transition = getD (chartTransitions s) j (0, 0, 0) in
       let r : transitionAt (bodyOf s) i ≡ x = body-at s i k in
       rw (key-at s i k, key-at s j g) (key-ascends x y
       (omega (arith, ap (λ (z : Transition). z .1) r, bytes (4 * i + 4 + 1)))
       (omega (arith, ap (λ (z : Transition). z .2) r, bytes (4 * i + 4 + 2)))
-      (precedes→ x y (places-ascend precedes precedes-order (0, 0, 0) (chartOf s) (c .ascend) i j h g)))
+      (precedes→ x y (places-ascend precedes precedes-order (0, 0, 0) (chartTransitions s) (c .ascend) i j h g)))
 
 pub body-passes : (s : List ℕ) → Bytes s → checkOf s ≡ stage.Passed → chart.checkOf (bodyOf s) ≡ stage.Passed
 body-passes s bytes e =
-    let c : IsChart s (chartOf s) = passed-chart s e in
+    let c : IsChart s (chartTransitions s) = passed-chart s e in
     let n = body-count s in
     passes (bodyOf s) (record {
       header = header-fits s c;

@@ -18,7 +18,7 @@ use Rattle.theory.proofs.ExpressionCharts.{transitions-ascend, transitions→}
 use Rattle.chart.specs.Numbered.{Coded, Numbered}
 use Rattle.chart.proofs.Relations.{acts-member}
 use Rattle.expression.specs.Table.{node, count}
-use Rattle.expression.specs.Body.{fourOf, flat, chartOf, headOf, bodyOf}
+use Rattle.expression.specs.Body.{fourOf, flat, chartTransitions, headOf, bodyOf}
 use Rattle.expression.specs.Listing.{bitsOf, transitionOf, wordTransitions, listing, bitsFrom, KeysFit}
 use Rattle.expression.proofs.Stores.{append-ascends, bits→, bits←, bits-ascend, listing-many}
 use Rattle.expression.proofs.Chart.{body-transitions}
@@ -109,21 +109,21 @@ module _ (keys words : List ℕ) where
 
 -- THE THEOREM
 module _ (s keys words : List ℕ) (m n : ℕ) (all : n ≡ count s) (N : Numbered (bodyOf s) keys words m) where
-  listed : (p : ℕ) (x : Transition) → Listed keys words x p → List·Memᴰ x (chartOf s)
+  listed : (p : ℕ) (x : Transition) → Listed keys words x p → List·Memᴰ x (chartTransitions s)
   unfolding transitionOf
   listed p x r =
       let y : Transition = transitionOf keys p (r .rank) in
       let a = N .exactly (y .0) (y .1) (y .2) .1 (r .rank, N .coded .listed .known (suc p) (r .rank) (r .on), refl, refl, r .on) in
-      subst (λ (z : Transition). List·Memᴰ z (chartOf s)) (r .is) (rw (body-transitions s) at (acts-member (bodyOf s) (y .0) (y .1) (y .2) .0 a))
+      subst (λ (z : Transition). List·Memᴰ z (chartTransitions s)) (r .is) (rw (body-transitions s) at (acts-member (bodyOf s) (y .0) (y .1) (y .2) .0 a))
 
   transition-is : (k i : ℕ) (x : Transition) → x .0 ≡ suc k → getD keys i 0 / 256 ≡ x .1 → getD keys i 0 % 256 ≡ x .2 → transitionOf keys k i ≡ x
   unfolding transitionOf
   transition-is k i x e ea et = λ j. (sym e j, ea j, et j)
 
-  listing-is-chart : listing keys words 0 n ≡ chartOf s
-  unfolding chartOf
+  listing-is-chart : listing keys words 0 n ≡ chartTransitions s
+  unfolding chartTransitions
   listing-is-chart =
-      one-list precedes precedes-order (listing keys words 0 n) (chartOf s) (listing-ascends keys words m (N .coded) 0 n) (transitions-ascend (node s) (count s))
+      one-list precedes precedes-order (listing keys words 0 n) (chartTransitions s) (listing-ascends keys words m (N .coded) 0 n) (transitions-ascend (node s) (count s))
       (λ x mem. let (p, l, h, r) = listing→ keys words 0 n x mem in listed p x r)
       (λ x mem. let (k, h, e, z) = transitions→ (node s) (count s) x mem in
       let (i, q, ea, et, on) = N .exactly (x .0) (x .1) (x .2) .0 (acts-member (bodyOf s) (x .0) (x .1) (x .2) .1 (rw (body-transitions s) mem)) in
@@ -131,13 +131,13 @@ module _ (s keys words : List ℕ) (m n : ℕ) (all : n ≡ count s) (N : Number
       (listing← keys words 0 n k i (omega arith) (omega (arith, all, h)) (omega (arith, q, N .coded .listed .few))
       (subst (λ (u : ℕ). On (getD words u 0) i) e on)))
 
-  pub chart-many : (t : ℕ) → t ≡ bitsFrom words 0 n → t ≡ length (chartOf s)
+  pub chart-many : (t : ℕ) → t ≡ bitsFrom words 0 n → t ≡ length (chartTransitions s)
   chart-many t e = e ∙ sym (listing-many words keys 0 n) ∙ ap length listing-is-chart
 
   pub chart-room : (k : ℕ) → length (bodyOf s) ≤ k → 4 + length (flat (listing keys words 0 n)) ≤ k
   unfolding bodyOf fourOf
   chart-room k h = rw listing-is-chart (omega (arith, h))
 
-  pub body-is : (out b : List ℕ) (t : ℕ) → t ≡ length (chartOf s) → b ≡ sets out 0 (headOf n t ++ flat (listing keys words 0 n)) → b ≡ sets out 0 (bodyOf s)
+  pub body-is : (out b : List ℕ) (t : ℕ) → t ≡ length (chartTransitions s) → b ≡ sets out 0 (headOf n t ++ flat (listing keys words 0 n)) → b ≡ sets out 0 (bodyOf s)
   unfolding bodyOf
   body-is out b t e d = d ∙ rw (listing-is-chart, all, e)

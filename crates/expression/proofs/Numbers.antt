@@ -22,7 +22,7 @@ use Rattle.theory.proofs.Bounds.{first-leaf}
 use Rattle.chart.specs.Numbered.{Lists, Numbered}
 use Rattle.chart.proofs.Relations.{acts-member}
 use Rattle.expression.specs.Table.{actionOf, node, count, WellFormed}
-use Rattle.expression.specs.Body.{chartOf, bodyOf}
+use Rattle.expression.specs.Body.{chartTransitions, bodyOf}
 use Rattle.expression.specs.Targets.{targetOf}
 use Rattle.expression.specs.Keys.{keyOf, onLeaf, leafKeys, keysBelow, Keyed, Ranked, RankedLeaves}
 use Rattle.expression.specs.Words.{LeafRanks, Worded}
@@ -124,16 +124,16 @@ module _ (s : List ℕ) (w : WellFormed s) (keys : List ℕ) (m : ℕ) (ranks : 
     Numbers : ℕ → ℕ → ℕ → Type 0
     Numbers u a t = (i : ℕ) × (i < m) × (getD keys i 0 / 256 ≡ a) × (getD keys i 0 % 256 ≡ t) × On (getD words u 0) i
 
-    step→ : (u a t : ℕ) → List·Memᴰ (u, a, t) (chartOf s) → Numbers u a t
-    unfolding chartOf edges Numbers
+    step→ : (u a t : ℕ) → List·Memᴰ (u, a, t) (chartTransitions s) → Numbers u a t
+    unfolding chartTransitions edges Numbers
     step→ u a t mem =
         let (k, h, e, me) = transitions→ (node s) (count s) (u, a, t) mem in
         let (j, mj, q) = Memᴰ·of-map (edge (node s) (count s)) (first (node s) k) me in
         let p = key-edge k j h mj ∙ q in
         (getD ranks j 0, rank-low k j h mj, ap (λ (y : ℕ × ℕ). y .0) p, ap (λ (y : ℕ × ℕ). y .1) p, bit← u (getD ranks j 0) (k, e, h, j, mj, refl))
 
-    step← : (u a t : ℕ) → Numbers u a t → List·Memᴰ (u, a, t) (chartOf s)
-    unfolding chartOf edges Numbers
+    step← : (u a t : ℕ) → Numbers u a t → List·Memᴰ (u, a, t) (chartTransitions s)
+    unfolding chartTransitions edges Numbers
     step← u a t (i, lt, ea, et, on) =
         let (k, e, h, j, mj, q) = bit→ u i on in
         let p : edge (node s) (count s) j ≡ (a, t) = sym (key-edge k j h mj) ∙ rw q (pair ea et) in

@@ -22,15 +22,15 @@ flat [] = []
 flat (x ∷ xs) = fourOf (x .0) (x .1) (x .2) 0 ++ flat xs
 
 -- the transitions of the chart
-unfoldable pub chartOf : List ℕ → List Transition
-chartOf s = transitions (node s) (count s)
+unfoldable pub chartTransitions : List ℕ → List Transition
+chartTransitions s = transitions (node s) (count s)
 
 -- V, the start, T in two bytes, and the transitions
 abbrev pub headOf : ℕ → ℕ → List ℕ
 headOf n t = fourOf (suc n) n (t % 256) (t / 256)
 
 unfoldable pub bodyOf : List ℕ → List ℕ
-bodyOf s = headOf (count s) (length (chartOf s)) ++ flat (chartOf s)
+bodyOf s = headOf (count s) (length (chartTransitions s)) ++ flat (chartTransitions s)
 
 -- 54, where the checks of the nodes have passed
 abbrev pub writtenAfter : Stage → ℕ → ℕ → Written

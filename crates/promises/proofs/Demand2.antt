@@ -13,7 +13,7 @@ use Rattle.report.specs.declared.Stage.the-variants as stage
 use Rattle.bits.specs.Bits.{Bytes}
 use Rattle.chart.specs.Checks as chart
 use Rattle.expression.specs.Table as nodes
-use Rattle.expression.specs.Body.{bodyOf, chartOf}
+use Rattle.expression.specs.Body.{bodyOf, chartTransitions}
 use Rattle.expression.specs.Charts.{IsChart}
 use Rattle.expression.proofs.Table.{passed→well-formed, tree}
 use Rattle.expression.proofs.Chart.{body-vertices, body-start, body-transitions, passed-chart, length-says}
@@ -22,14 +22,14 @@ use Rattle.bisimulation.proofs.Relations.{relation-iff-bisimulation}
 use Rattle.promises.specs.Demand2.{ExactSteps, WritesTheChart, LabellingPasses, RelationPasses}
 
 module _ (s : List ℕ) (passed : nodes.checkOf s ≡ stage.Passed) where
-  chart-of : IsChart s (chartOf s)
+  chart-of : IsChart s (chartTransitions s)
   chart-of = passed-chart s passed
 
-  vertex-of : (u a t : ℕ) → List·Memᴰ (u, a, t) (chartOf s) → (k : ℕ) × (k < nodes.count s) × (u ≡ suc k)
+  vertex-of : (u a t : ℕ) → List·Memᴰ (u, a, t) (chartTransitions s) → (k : ℕ) × (k < nodes.count s) × (u ≡ suc k)
   vertex-of u a t m = let b = chart-of .fits (u, a, t) m in (u - 1, omega arith, omega arith)
 
-  leads : (k a t : ℕ) → List·Memᴰ (suc k, a, t) (chartOf s) ↔ ((k < nodes.count s) × LeadsBy (nodes.node s) (nodes.count s) k a t)
-  unfolding chartOf
+  leads : (k a t : ℕ) → List·Memᴰ (suc k, a, t) (chartTransitions s) ↔ ((k < nodes.count s) × LeadsBy (nodes.node s) (nodes.count s) k a t)
+  unfolding chartTransitions
   leads = chart-leads (nodes.node s) (nodes.count s) (tree s (passed→well-formed s passed))
 
   pub exact-steps : ExactSteps s (bodyOf s)

@@ -40,7 +40,7 @@ use Rattle.chart.proofs.Relations.{steps-formed}
 use Rattle.chart.proofs.Standing.{stands-agree, stands-same, all-stand, one-standing}
 use Rattle.witness.proofs.Labellings.{labelled-iff-witness}
 use Rattle.expression.specs.Table as nodes
-use Rattle.expression.specs.Body.{chartOf}
+use Rattle.expression.specs.Body.{chartTransitions}
 use Rattle.expression.proofs.Table.{passed→well-formed, tree}
 use Rattle.expression.proofs.Chart.{body-start, body-transitions, body-passes}
 use Rattle.bisimulation.specs.Answers.{Related}
@@ -205,7 +205,7 @@ module _ (f : List ℕ) (bytes : Bytes f) {v t l : ℕ} (accepted : verdictOf f 
       relation-iff-bisimulation (expressionIn f) (chartIn f) (relationIn f) .0 q .2
 
   rules-match : Bisimulation (systemOf (expressionIn f)) (rules (rootIn f)) (Means (nodes.node (nodesIn f)) (nodes.count (nodesIn f)))
-  unfolding chartOf
+  unfolding chartTransitions
   rules-match =
       let w = passed→well-formed (nodesIn f) nodes-pass in
       let some = w .sized .some in

@@ -12,14 +12,14 @@ use Rattle.theory.specs.Witnesses.{Witness, Connected}
 use Rattle.chart.specs.Bodies as chart
 use Rattle.chart.specs.Steps.{StepsOf}
 use Rattle.expression.specs.Table as nodes
-use Rattle.expression.specs.Body.{chartOf}
+use Rattle.expression.specs.Body.{chartTransitions}
 use Rattle.bisimulation.specs.Answers.{Related}
 use Rattle.verdict.specs.Files.{fileOf}
 use Rattle.chart.specs.Systems.{systemOf}
 
 -- the chart of an expression's nodes
 abbrev pub expressionSystem : List ℕ → System
-expressionSystem s = transitions.chart (nodes.count s) (chartOf s)
+expressionSystem s = transitions.chart (nodes.count s) (chartTransitions s)
 
 -- the bodies of the four records
 pub record Yard (s b labels relation : List ℕ) : Type 0 where
