@@ -19,8 +19,8 @@ abbrev pub Same : Set → List ℕ → Type 0
 Same set xs = (v : ℕ) → Has set v ↔ List·Memᴰ v xs
 
 -- what 53 asks of a set
-abbrev pub SetFits : List ℕ → Set → Type 0
-SetFits b set = (¬ Empty set) × ((w : ℕ) → Has set w → w < verticesOf b)
+abbrev pub VerticesFit : List ℕ → Set → Type 0
+VerticesFit b set = (¬ Empty set) × ((w : ℕ) → Has set w → w < verticesOf b)
 
 -- THE STEP from a set by an action: it is taken where the action has a target, and then the set has all of them; else it stays
 pub record StepBy (b : List ℕ) (set : Set) (a : ℕ) (r : Stepped) : Type 0 where

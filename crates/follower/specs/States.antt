@@ -1,5 +1,5 @@
--- A follower's state: its bytes, its set of vertices, and what is kept beside the set. Of its fields all that is said stands
--- here.
+-- A follower's state: its bytes, its set of vertices, and what is kept beside the set. No other definition knows its fields, the
+-- set aside.
 use Prim.Native.Nat.{ℕ, _<_}
 use mathlib.Core.Path.{_≡_}
 use mathlib.Core.Bool.{true}

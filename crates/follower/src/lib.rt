@@ -24,7 +24,7 @@ ghost use Rattle.bits.specs.Sets.{Has, Empty};
 ghost use Rattle.chart.specs.Checks.{checkOf};
 ghost use Rattle.chart.specs.Leaving.{Begins};
 ghost use Rattle.follower.specs.States.{stateSize, bytesIn, stateIn, membersOf, noState};
-ghost use Rattle.follower.specs.Parts.{Same, SetFits, StepBy, CountOffered, Tells};
+ghost use Rattle.follower.specs.Parts.{Same, VerticesFit, StepBy, CountOffered, Tells};
 ghost use Rattle.follower.specs.Calls.{ruledOf, calledOn, lentOn, otherLength};
 ghost use Rattle.follower.specs.Ways.{wayOf, wayLeft};
 
@@ -59,8 +59,8 @@ fn set_fits(set: Set, vertices: usize) -> bool
 // 53 of a set.
 fn ready(chart: &[u8], set: Set) -> Stage
     requires { ⌜ checkOf (now chart) ≡ Stage.Passed ⌝ }
-    ensures { λ r. ⌜ (SetFits (now (chart .entry)) set → r ≡ Stage.Passed)
-        × (¬ SetFits (now (chart .entry)) set → r ≡ Stage.Refused Place.FollowerSet) ⌝ }
+    ensures { λ r. ⌜ (VerticesFit (now (chart .entry)) set → r ≡ Stage.Passed)
+        × (¬ VerticesFit (now (chart .entry)) set → r ≡ Stage.Refused Place.FollowerSet) ⌝ }
 {
     if set_fits(set, byte(chart, 0)) {
         return Stage::Passed;
@@ -110,7 +110,7 @@ fn told(chart: &[u8], begins: &[usize; 129], step: Stepped) -> Followed
 fn event_from(chart: &[u8], follower: Follower, set: Set, action: u8) -> Moved
     requires { ⌜ (checkOf (now chart) ≡ Stage.Passed)
         × Same set (membersOf follower)
-        × SetFits (now chart) set ⌝ }
+        × VerticesFit (now chart) set ⌝ }
     ensures { λ r. ⌜ r ≡ ruledOf (now (chart .entry)) follower (event action) ⌝ }
 {
     let begins = chart::begins(chart);
