@@ -28,12 +28,12 @@ use Rattle.chart.specs.Bodies.{verticesOf, countOf, fromOf, toOf, WellFormed}
 use Rattle.chart.specs.Checks.{checkOf}
 use Rattle.chart.specs.Steps.{StandingOf}
 use Rattle.chart.specs.Standing.{TakenOut}
-use Rattle.chart.proofs.Checks.{well-formed, passes, check-20, check-21}
-use Rattle.chart.proofs.Refusals.{refused-cases}
+use Rattle.chart.proofs.Checks.{well-formed, passes}
+use Rattle.chart.proofs.Refusals.{chart-refused}
 use Rattle.chart.proofs.Relations.{steps-formed, steps-listed, standing-step}
 use Rattle.chart.proofs.Standing.{only?, one-taken}
 use Rattle.elimination.specs.Removals.{removedAs, standingTest, whenDone, onFits, standsTest, ruledOf, removalOf, clearedFrom, leftOf}
-use Rattle.elimination.specs.RemovalAnswers.{StandingFits, Fits, OpeningAnswer, other-header, faulty-at, other-length}
+use Rattle.elimination.specs.RemovalAnswers.{StandingFits, Fits, OpeningAnswer, other-chart, other-length}
 use Rattle.elimination.specs.RemovalAnswers.{other-standing, LoopRefused, no-entry, breaks-L1, breaks-L2, breaks-L3}
 use Rattle.elimination.specs.RemovalAnswers.{RemovalAnswer, opening, refused, taken}
 
@@ -79,10 +79,6 @@ module _ (b labels standing : List ℕ) where
   standing-labels B u l w s = steps-listed b labels B .label-below u l w (standing-step s)
 
 -- 20, 21, 30 AND 50: one of them refuses, or all pass
--- 20 and 21 are all that the check of the chart refuses
-pub chart-refused : (b labels standing : List ℕ) (p : Place) → checkOf b ≡ stage.Refused p → OpeningAnswer b labels standing (Refused p)
-chart-refused b labels standing = refused-cases b (λ p. OpeningAnswer b labels standing (Refused p)) other-header (λ i. faulty-at)
-
 module _ (b labels standing : List ℕ) where
   pub opening-stages : {A : Type 0} → ((a : Removed) → OpeningAnswer b labels standing a → A) → (Fits b labels standing → A) → A
   opening-stages {A} refuse fits = go (checkOf b) refl
@@ -94,13 +90,12 @@ module _ (b labels standing : List ℕ) where
           (λ s. fits (record { formed = well-formed b c; each = h; marked = s }))
           (λ n. refuse _ (other-standing (well-formed b c) h n)))
           (λ n. refuse _ (other-length (well-formed b c) n))
-      go (stage.Refused p) c = refuse _ (chart-refused b labels standing p c)
+      go (stage.Refused p) c = refuse _ (other-chart (chart-refused b p .0 c))
 
   -- the answer of a call that asks them first, by how it tells them
   module _ {A : Type 0} (told : Removed → A) (a : A) where
     pub on-refusal : {x : Removed} → OpeningAnswer b labels standing x → onFits b labels standing told a ≡ told x
-    on-refusal (other-header h) = rw (check-20 b .1 h)
-    on-refusal (faulty-at h f) = rw (check-21 b _ .1 (h, f))
+    on-refusal (other-chart r) = rw (chart-refused b _ .1 r)
     on-refusal (other-length W n) = rw (passes b W, ne-eqb (length labels) (countOf b) n)
     on-refusal (other-standing W h n) =
         rw (passes b W, eq-eqb (length labels) (countOf b) h, is-false (tests-standing b standing) n)
@@ -110,8 +105,7 @@ module _ (b labels standing : List ℕ) where
 
   -- none of them is done
   pub opening-refuses : {a : Removed} → OpeningAnswer b labels standing a → a ≢ Done
-  opening-refuses (other-header h) e = let z : _≡_ {A = ℕ} 0 1 = cc in omega arith
-  opening-refuses (faulty-at h f) e = let z : _≡_ {A = ℕ} 0 1 = cc in omega arith
+  opening-refuses (other-chart r) e = let z : _≡_ {A = ℕ} 0 1 = cc in omega arith
   opening-refuses (other-length W n) e = let z : _≡_ {A = ℕ} 0 1 = cc in omega arith
   opening-refuses (other-standing W h n) e = let z : _≡_ {A = ℕ} 0 1 = cc in omega arith
 

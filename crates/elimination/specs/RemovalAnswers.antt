@@ -5,15 +5,16 @@ use mathlib.Core.Path.{_≡_}
 use mathlib.Core.Logic.{_≢_}
 use mathlib.Core.List.{List}
 use lib.ListN.{length, getD}
-use Rattle.theory.specs.Least.{Least}
 use Rattle.theory.specs.Paths.{Star, Endless, Returns}
 use Rattle.theory.specs.Charts.{Steps, Loop}
 use Rattle.theory.specs.LoopCharts.{Around}
 use Rattle.theory.specs.MultiSteps.{LoopSubchart}
 use Rattle.report.specs.declared.Removed.{Removed}
 use Rattle.report.specs.declared.Removed.the-variants.{Done, Refused, StandingBytes, NoEntry, NotLoop}
+use Rattle.report.specs.declared.Place.{Place}
 use Rattle.report.specs.declared.Place.the-variants as place
-use Rattle.chart.specs.Bodies.{countOf, HeaderFits, Faulty, WellFormed}
+use Rattle.chart.specs.Bodies.{countOf, WellFormed}
+use Rattle.chart.specs.Refusals.{ChartRefused}
 use Rattle.chart.specs.Steps.{StandingOf}
 use Rattle.chart.specs.Standing.{TakenOut}
 
@@ -30,11 +31,8 @@ pub record Fits (b labels standing : List ℕ) : Type 0 where
 
 -- the refusals of the chart, the labels and the standing bytes, each with its place
 pub data OpeningAnswer (b labels standing : List ℕ) : Removed → Type 0 where
-  -- 20: body under 4 bytes, V, start or T out of range, or another length
-  other-header : ¬ HeaderFits b → OpeningAnswer b labels standing (Refused place.ChartHeader)
-  -- 21: malformed or unordered transition; the lowest index
-  faulty-at : {p : ℕ} → HeaderFits b → Least (Faulty b) p
-      → OpeningAnswer b labels standing (Refused (place.Transition p))
+  -- 20, 21
+  other-chart : {p : Place} → ChartRefused b p → OpeningAnswer b labels standing (Refused p)
   -- 30: not one byte a transition; the length
   other-length : WellFormed b → length labels ≢ countOf b
       → OpeningAnswer b labels standing (Refused (place.LabelsLength (length labels)))

@@ -4,7 +4,8 @@ use borrow.Author.Tests.{not-true, not-false}
 use Rattle.chart.proofs.Checks.{well-formed}
 use Rattle.elimination.specs.RemovalAnswers.{other-length, other-standing}
 use Rattle.elimination.specs.Loops.{passed, refused}
-use Rattle.elimination.proofs.Removals.{chart-refused}
+use Rattle.chart.proofs.Refusals.{chart-refused}
+use Rattle.elimination.specs.RemovalAnswers.{other-chart}
 use borrow.Author.Needs.{needs}
 use Rattle.elimination.proofs.opening.Statement.{statement}
 use Rattle.elimination.proofs.opening.Tie as tie
@@ -16,7 +17,7 @@ enum-known-checked : tie.Need-enum-known-checked
 enum-known-checked c = search needs
 
 returns : tie.Need-returns
-returns c = refused (chart-refused _ _ _ _ (sym (c .before .before .before .check .ensures) ∙ c .before .checked .given .1))
+returns c = refused (other-chart (chart-refused _ _ .0 (sym (c .before .before .before .check .ensures) ∙ c .before .checked .given .1)))
 
 enum-told : tie.Need-enum-told
 enum-told c = search needs
