@@ -18,8 +18,7 @@ use Rattle.chart.specs.Checks.{checkOf}
 use Rattle.chart.specs.Leaving.{FromBelow, Begins}
 use Rattle.chart.specs.Images.{ActsInto, LeadsInto}
 use Rattle.chart.proofs.Checks.{well-formed}
-use Rattle.chart.proofs.Order.{begin-order, begin-high, at-mid, between}
-use Rattle.chart.proofs.Targets.{actions-sorted}
+use Rattle.chart.proofs.Order.{begin-order, begin-high, at-mid, between, actions-sorted}
 
 -- THE LOWEST ACTION of one vertex u into the set t: its transitions before transition i lead elsewhere
 pub record Looking (b begins : List ℕ) (u : ℕ) (t : Set) (i : ℕ) : Type 0 where

@@ -13,7 +13,7 @@ use Rattle.bits.specs.Bits.{Bytes}
 use Rattle.bits.proofs.Determined.{split-one}
 use Rattle.bits.proofs.Gains.{filled}
 use Rattle.bits.specs.declared.Span.{Span}
-use Rattle.chart.specs.Bodies.{verticesOf, countOf, fromOf, keyAt, WellFormed}
+use Rattle.chart.specs.Bodies.{verticesOf, countOf, fromOf, actionOf, keyAt, WellFormed}
 use Rattle.bits.specs.First.{Split}
 use Rattle.chart.specs.Leaving.{FromBelow, RangeOf, Begins}
 
@@ -24,6 +24,14 @@ key-from b B i j h = omega (arith, B (4 * j + 4 + 1), B (4 * j + 4 + 2))
 pub sorted : (b : List ℕ) → Bytes b → WellFormed b → (i j : ℕ) → i ≤ j → j < countOf b → fromOf b i ≤ fromOf b j
 sorted b B W i j l h =
     ⊎-elim (λ e. subst (λ (x : ℕ). fromOf b i ≤ fromOf b x) e (le-refl _)) (λ m. key-from b B i j (W .ascending i j m h)) (eq-or-lt-of-le l)
+
+-- THE ACTIONS of one vertex do not fall
+pub actions-sorted : (b : List ℕ) → Bytes b → WellFormed b → (i j : ℕ) → i ≤ j → j < countOf b → fromOf b i ≡ fromOf b j
+    → actionOf b i ≤ actionOf b j
+actions-sorted b B W i j l h e =
+    ⊎-elim (λ z. subst (λ (x : ℕ). actionOf b i ≤ actionOf b x) z (le-refl _))
+    (λ m. let k = W .ascending i j m h in omega (arith, k, e, B (4 * j + 4 + 2)))
+    (eq-or-lt-of-le l)
 
 -- what a search for the split keeps
 pub record Bracket (b : List ℕ) (n v lo hi : ℕ) : Type 0 where

@@ -1,11 +1,11 @@
 -- The transitions that leave a vertex are one part of the body's bytes.
-use mathlib.Core.Path.{_≡_, refl, sym, ap, _∙_}
+use mathlib.Core.Path.{_≡_, refl, sym, ap, _∙_, subst}
 use mathlib.Core.List.{List, [], _++_, append-assoc, append-nil}
 use Prim.Native.Nat.{ℕ, zero, suc, _+_, _-_, _*_, _≤_, _<_}
 use native.Mathlib.Nat.{add-zero, zero-add, add-suc, suc-add}
 use native.Mathlib.Omega.{arith}
-use lib.ListN.{take, drop}
-use lib.Seq.{take-add, drop-drop}
+use lib.ListN.{length, getD, take, drop, length-drop}
+use lib.Seq.{take-add, drop-drop, getD-take, getD-drop, length-take-le}
 use lib.Dec.{leb}
 use borrow.Author.Tests.{eq-eqb, ne-eqb, leb-true, leb-false}
 use Rattle.theory.specs.Tests.{lowest}
@@ -13,10 +13,12 @@ use Rattle.theory.proofs.Tests.{lowest-stops}
 use Rattle.report.specs.declared.Stage.{Stage}
 use Rattle.report.specs.declared.Stage.the-variants.{Passed, Refused}
 use Rattle.bits.specs.Bits.{Bytes}
+use Rattle.bits.specs.declared.Span.{Span}
 use Rattle.chart.specs.Bodies.{verticesOf, countOf, fromOf, WellFormed}
 use Rattle.bits.specs.First.{Split}
 use Rattle.chart.specs.Checks.{checkOf}
-use Rattle.chart.specs.Leaving.{leavingAt, leavingOf, FromBelow}
+use Rattle.chart.specs.Leaving.{leavingAt, leavingOf, FromBelow, RangeOf}
+use Rattle.chart.specs.Parts.{PartOf}
 use Rattle.chart.proofs.Checks.{well-formed}
 use Rattle.chart.proofs.Order.{first-above, low-high, at-low, at-mid, at-high}
 
@@ -58,9 +60,13 @@ module _ (b : List ℕ) (n v lo hi : ℕ) (L : Split (FromBelow b v) n lo) (H : 
       let s₃ : leavingAt b v hi (n - hi) ≡ [] = none-leave b v hi (n - hi) (λ k l h. at-high L H k l (omega arith)) in
       cc (zero-add lo, append-nil (take (4 * (hi - lo)) (drop (4 * lo + 4) b)))
 
-pub leaving-passed : (b : List ℕ) (v : ℕ) → checkOf b ≡ Passed → leavingOf b v ≡ leavingAt b v 0 (countOf b)
+leaving-passed : (b : List ℕ) (v : ℕ) → checkOf b ≡ Passed → leavingOf b v ≡ leavingAt b v 0 (countOf b)
 unfolding leavingOf
 leaving-passed b v e = rw e
+
+pub leaving-range : {b : List ℕ} {v : ℕ} {r : Span} → checkOf b ≡ Passed → RangeOf b v r
+    → take (4 * r .to + 4 - (4 * r .from + 4)) (drop (4 * r .from + 4) b) ≡ leavingOf b v
+leaving-range {b} {v} {r} e R = leaving-part b (countOf b) v (r .from) (r .to) (R .begins) (R .ends) ∙ sym (leaving-passed b v e)
 
 pub leaving-refused : (b : List ℕ) (v : ℕ) {p : _} → checkOf b ≡ Refused p → leavingOf b v ≡ []
 unfolding leavingOf
@@ -70,22 +76,47 @@ leaving-refused b v e = rw e
 pub leaving-high : (b : List ℕ) (v : ℕ) → WellFormed b → verticesOf b ≤ v → leavingAt b v 0 (countOf b) ≡ []
 leaving-high b v W h = none-leave b v 0 (countOf b) (λ k l m e. omega (arith, W .each k (omega arith) .from-high))
 
--- THE ANSWER IS A PART OF THE BODY, whatever the body and the vertex
-pub leaving-is-part : (b : List ℕ) → Bytes b → (v : ℕ) → (a n : ℕ) × (leavingOf b v ≡ take n (drop a b))
-leaving-is-part b B v = go (checkOf b) refl
-  where
-    -- the first transition whose from is not below u
-    from : ℕ → ℕ
-    from u = lowest (λ i. leb u (fromOf b i)) 0 (countOf b)
+-- what stands between two splits, by index
+module _ {b : List ℕ} {v lo hi : ℕ} (W : WellFormed b) (L : Split (FromBelow b v) (countOf b) lo) (H : Split (FromBelow b (v + 1)) (countOf b) hi) where
+  part-between : {part : List ℕ} → part ≡ take (4 * hi + 4 - (4 * lo + 4)) (drop (4 * lo + 4) b) → PartOf b v part
+  part-between {part} e =
+      let n = 4 * hi + 4 - (4 * lo + 4) in
+      let l : lo ≤ hi = low-high L H in
+      let d : length (drop (4 * lo + 4) b) ≡ length b - (4 * lo + 4) = length-drop (4 * lo + 4) b in
+      let t : length (take n (drop (4 * lo + 4) b)) ≡ n = length-take-le n _ (omega (arith, d, W .header .whole, H .within, l)) in
+      let long : length part ≡ n = ap length e ∙ t in
+      record {
+        at = lo;
+        begins = L;
+        ends = subst (Split (FromBelow b (v + 1)) (countOf b)) (omega (arith, long, l)) H;
+        whole = omega (arith, long, l);
+        same = λ i h. ap (λ (x : List ℕ). getD x i 0) e ∙ getD-take n (drop (4 * lo + 4) b) i 0 (omega (arith, h, long))
+            ∙ getD-drop (4 * lo + 4) b i 0;
+      }
 
-    parts : WellFormed b → (u : ℕ) → Split (FromBelow b u) (countOf b) (from u)
-    parts W u =
-        let s = lowest-stops (λ i. leb u (fromOf b i)) 0 (countOf b) in
-        first-above b B W (countOf b) u (from u) refl (omega (arith, s .within)) (λ k h. leb-false _ _ (s .below k (omega arith) h)) (λ h. leb-true _ _ (s .passes (omega arith)))
+-- where the transitions of a vertex begin, in a body of bytes that passes
+module _ (b : List ℕ) (B : Bytes b) where
+  -- the first transition whose from is not below u
+  abbrev from : ℕ → ℕ
+  from u = lowest (λ i. leb u (fromOf b i)) 0 (countOf b)
 
-    go : (s : Stage) → checkOf b ≡ s → (a n : ℕ) × (leavingOf b v ≡ take n (drop a b))
-    go (Refused p) e = (0, 0, leaving-refused b v e)
-    go Passed e =
-        let W = well-formed b e in
-        let part = leaving-part b (countOf b) v (from v) (from (v + 1)) (parts W v) (parts W (v + 1)) in
-        (4 * from v + 4, 4 * from (v + 1) + 4 - (4 * from v + 4), leaving-passed b v e ∙ sym part)
+  parts : WellFormed b → (u : ℕ) → Split (FromBelow b u) (countOf b) (from u)
+  parts W u =
+      let s = lowest-stops (λ i. leb u (fromOf b i)) 0 (countOf b) in
+      first-above b B W (countOf b) u (from u) refl (omega (arith, s .within)) (λ k h. leb-false _ _ (s .below k (omega arith) h)) (λ h. leb-true _ _ (s .passes (omega arith)))
+
+  passed-part : (v : ℕ) → checkOf b ≡ Passed → leavingOf b v ≡ take (4 * from (v + 1) + 4 - (4 * from v + 4)) (drop (4 * from v + 4) b)
+  passed-part v e = let W = well-formed b e in
+      leaving-passed b v e ∙ sym (leaving-part b (countOf b) v (from v) (from (v + 1)) (parts W v) (parts W (v + 1)))
+
+  -- THE ANSWER IS A PART OF THE BODY, whatever the body and the vertex
+  pub leaving-is-part : (v : ℕ) → (a n : ℕ) × (leavingOf b v ≡ take n (drop a b))
+  leaving-is-part v = go (checkOf b) refl
+    where
+      go : (s : Stage) → checkOf b ≡ s → (a n : ℕ) × (leavingOf b v ≡ take n (drop a b))
+      go (Refused p) e = (0, 0, leaving-refused b v e)
+      go Passed e = (4 * from v + 4, 4 * from (v + 1) + 4 - (4 * from v + 4), passed-part v e)
+
+  -- BY INDEX: the transitions of v, where the body passes
+  pub leaving-by-index : (v : ℕ) → checkOf b ≡ Passed → PartOf b v (leavingOf b v)
+  leaving-by-index v e = let W = well-formed b e in part-between W (parts W v) (parts W (v + 1)) (passed-part v e)

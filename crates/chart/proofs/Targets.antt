@@ -19,7 +19,7 @@ use Rattle.bits.specs.First.{Split}
 use Rattle.bits.specs.Sets.{Empty}
 use Rattle.report.specs.declared.Stage.the-variants as stage
 use Rattle.chart.proofs.Checks.{well-formed}
-use Rattle.chart.proofs.Order.{begin-order, begin-high, at-mid}
+use Rattle.chart.proofs.Order.{begin-order, begin-high, at-mid, actions-sorted}
 use Rattle.bits.proofs.Gains.{blank}
 use Rattle.bits.proofs.Visits.{Visit, FromPast, past-none, past-still, past-new, past-or, past-all}
 use Rattle.chart.specs.Bodies.{countOf, fromOf, actionOf, WellFormed}
@@ -30,14 +30,6 @@ use Rattle.chart.specs.Images.{ActsFrom, Offers, Marks, MarksMore, Stret
 
 pub decides-acts : {body : List ℕ} {i b : ℕ} (a : ℕ) → b ≡ actionOf body i → Decides (eqb b a) (Acts body a i)
 decides-acts {b = b} a e = decides-same ((λ p. record { is = sym e ∙ p }), (λ q. e ∙ q .is)) (decides-eqb b a)
-
--- THE ACTIONS of one vertex do not fall
-pub actions-sorted : (b : List ℕ) → Bytes b → WellFormed b → (i j : ℕ) → i ≤ j → j < countOf b → fromOf b i ≡ fromOf b j
-    → actionOf b i ≤ actionOf b j
-actions-sorted b B W i j l h e =
-    ⊎-elim (λ z. subst (λ (x : ℕ). actionOf b i ≤ actionOf b x) z (le-refl _))
-    (λ m. let k = W .ascending i j m h in omega (arith, k, e, B (4 * j + 4 + 2)))
-    (eq-or-lt-of-le l)
 
 module _ {b : List ℕ} {u at end a : ℕ} (B : Bytes b) (S : Stretch b u at end) where
   pub lower-none : Lower b a at end at

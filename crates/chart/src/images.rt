@@ -2,6 +2,7 @@
 // and where a vertex leads.
 use bits::Set;
 use bits::byte;
+use crate::part_of;
 use report::Stage;
 ghost use mathlib.Core.Path.{_≡_};
 ghost use mathlib.Core.Bool.{cond};
@@ -14,6 +15,7 @@ ghost use Rattle.chart.specs.Leaving.{Begins};
 ghost use Rattle.chart.specs.Steps.{ActsOf};
 ghost use Rattle.chart.specs.Images.{Image, ActsFrom, Offers, Marks, MarksMore, markedOf, Stretch, Lower};
 ghost use Rattle.chart.specs.Images.{ActsInto, LeadsInto, LeadsTo};
+ghost use Rattle.chart.specs.Parts.{Row, Enters, Every};
 
 // From a place among the transitions of u on to another, by eights: their actions do not fall, and those passed are below
 // this one.
@@ -158,17 +160,25 @@ pub fn count_marks(marks: &[u8; 256]) -> usize
     total
 }
 
+// What the transitions of a part lead to.
+fn targets_in(part: &[u8]) -> Set
+    requires { ⌜ Row (now part) ⌝ }
+    ensures { λ r. ⌜ Members (Enters (now (part .entry)) Every) r ⌝ }
+{
+    let n = part.len() / 4;
+    let mut set = Set::empty();
+    let mut i: usize = 0;
+    while i < n {
+        set = set.with(byte(part, 4 * i + 2));
+        i += 1;
+    }
+    set
+}
+
 // What the transitions of u lead to.
 pub fn target_row(body: &[u8], begins: &[usize; 129], u: usize) -> Set
     requires { ⌜ (checkOf (now body) ≡ Stage.Passed) × Begins (now body) (now begins) × (u < 128) ⌝ }
     ensures { λ r. ⌜ Members (LeadsTo (now (body .entry)) u) r ⌝ }
 {
-    let end = begins[u + 1];
-    let mut set = Set::empty();
-    let mut i = begins[u];
-    while i < end {
-        set = set.with(byte(body, 4 * i + 4 + 2));
-        i += 1;
-    }
-    set
+    targets_in(part_of(body, begins, u))
 }

@@ -3,12 +3,12 @@ pub mod images;
 
 ghost use mathlib.Core.Path.{_≡_};
 ghost use mathlib.Core.Bool.{true};
-ghost use Prim.Native.Nat.{_+_, _*_, _≤_, _<_};
+ghost use Prim.Native.Nat.{ℕ, _+_, _*_, _≤_, _<_};
 ghost use lib.ListN.{length};
 ghost use Rattle.chart.specs.Bodies.{verticesOf, countOf, HeaderFits, SoundTo};
 ghost use Rattle.chart.specs.Checks.{headerOk, checkOf};
 ghost use Rattle.chart.specs.Codes.{codeKey, codeRises, codeOk, Turn};
-ghost use Rattle.chart.specs.Leaving.{leavingAt, leavingOf, FromBelow, RangeOf, NotPast, Begins};
+ghost use Rattle.chart.specs.Leaving.{leavingOf, FromBelow, RangeOf, NotPast, Begins};
 ghost use Rattle.chart.specs.Steps.{Kept};
 ghost use Rattle.bits.specs.First.{Split};
 ghost use Rattle.bits.specs.Sets.{Members};
@@ -175,15 +175,24 @@ pub fn range_of(body: &[u8], v: usize) -> Span
     Span { from, to }
 }
 
-// The transitions of a body that passes which leave v.
-fn leaving_part(body: &[u8], v: usize) -> &[u8]
-    requires { ⌜ checkOf (now body) ≡ Stage.Passed ⌝ }
-    ensures { λ r. ⌜ now r ≡ leavingAt (now (body .entry)) v 0 (countOf (now (body .entry))) ⌝ }
+// The transitions that stand in a range of a body that passes, as a part of it.
+pub fn part_in(body: &[u8], range: Span) -> &[u8]
+    requires { ⌜ (checkOf (now body) ≡ Stage.Passed)
+        × (range .from ≤ range .to)
+        × (range .to ≤ countOf (now body)) ⌝ }
+    ensures { λ r. ⌜ ((v : ℕ) → RangeOf (now (body .entry)) v range → now r ≡ leavingOf (now (body .entry)) v) ⌝ }
 {
-    let range = range_of(body, v);
     let a = 4 * range.from + 4;
     let e = 4 * range.to + 4;
     &body[a..e]
+}
+
+// The transitions of a body that passes which leave v.
+fn leaving_part(body: &[u8], v: usize) -> &[u8]
+    requires { ⌜ checkOf (now body) ≡ Stage.Passed ⌝ }
+    ensures { λ r. ⌜ now r ≡ leavingOf (now (body .entry)) v ⌝ }
+{
+    part_in(body, range_of(body, v))
 }
 
 // The transitions that leave a vertex, as a part of the body: nothing for a number of V or above, or where 20 or 21
@@ -245,6 +254,18 @@ pub fn begins(body: &[u8]) -> [usize; 129]
         v += 1;
     }
     begins
+}
+
+// The transitions of u as a part of the body, by where those of each vertex begin.
+pub fn part_of<'a>(body: &'a [u8], begins: &[usize; 129], u: usize) -> &'a [u8]
+    requires { ⌜ (checkOf (now body) ≡ Stage.Passed) × Begins (now body) (now begins) × (u < 128) ⌝ }
+    ensures { λ r. ⌜ now r ≡ leavingOf (now (body .entry)) u ⌝ }
+{
+    let range = Span {
+        from: begins[u],
+        to: begins[u + 1],
+    };
+    part_in(body, range)
 }
 
 // What the transitions of u lead to whose `keep` byte is 1.

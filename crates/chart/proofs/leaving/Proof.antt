@@ -1,9 +1,6 @@
-use mathlib.Core.Path.{_≡_, sym, _∙_}
-use denote.Ref.{now}
+use mathlib.Core.Path.{sym, _∙_}
 use borrow.Author.Needs.{needs}
-use Rattle.report.specs.declared.Stage.the-variants.{Passed}
-use Rattle.chart.specs.Checks.{checkOf}
-use Rattle.chart.proofs.Parts.{leaving-passed, leaving-refused}
+use Rattle.chart.proofs.Parts.{leaving-refused}
 use Rattle.chart.proofs.leaving.Statement.{statement}
 use Rattle.chart.proofs.leaving.Tie as tie
 
@@ -23,7 +20,7 @@ slice-aggregate-result : tie.Need-slice-aggregate-result
 slice-aggregate-result c = search needs
 
 returns : tie.Need-returns
-returns c = let e : checkOf (now (c .before .before .before .before .before .args .body)) ≡ Passed = cc in c .leaving-part .ensures ∙ sym (leaving-passed _ _ e)
+returns c = c .leaving-part .ensures
 
 returns-2 : tie.Need-returns-2
 returns-2 c = sym (leaving-refused _ _ (sym (c .before .before .before .check .ensures) ∙ c .before .enum-told2 .given .1))

@@ -1,0 +1,35 @@
+use native.Mathlib.Omega.{arith}
+use Rattle.chart.proofs.Checks.{well-formed}
+use Rattle.chart.proofs.Parts.{leaving-range}
+use borrow.Author.Needs.{needs}
+use Rattle.chart.proofs.part_in.Statement.{statement}
+use Rattle.chart.proofs.part_in.Tie as tie
+
+mul-a : tie.Need-mul-a
+mul-a c = let p = c .before .pre in let W = well-formed _ (p .0) in omega (arith, p .1, p .2, W .header .count-high, W .header .whole)
+
+add-a : tie.Need-add-a
+add-a c = let p = c .before .pre in let W = well-formed _ (p .0) in omega (arith, p .1, p .2, W .header .count-high, W .header .whole)
+
+mul-e : tie.Need-mul-e
+mul-e c = let p = c .before .before .pre in let W = well-formed _ (p .0) in omega (arith, p .1, p .2, W .header .count-high, W .header .whole)
+
+add-e : tie.Need-add-e
+add-e c = let p = c .before .before .pre in let W = well-formed _ (p .0) in omega (arith, p .1, p .2, W .header .count-high, W .header .whole)
+
+sub-result : tie.Need-sub-result
+sub-result c = search needs
+
+part-result-start : tie.Need-part-result-start
+part-result-start c = search needs
+
+part-result-end : tie.Need-part-result-end
+part-result-end c = let p = c .before .before .pre in let W = well-formed _ (p .0) in omega (arith, p .1, p .2, W .header .count-high, W .header .whole)
+
+returns : tie.Need-returns
+returns c = λ v R. leaving-range (c .before .before .before .pre .0) R
+
+pub part-in-spec : {M : Type 1} → statement M
+part-in-spec =
+    tie.close
+    (tie.spec mul-a add-a mul-e add-e sub-result part-result-start part-result-end returns)
