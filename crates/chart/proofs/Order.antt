@@ -124,6 +124,9 @@ begins-all {b} {r} {n} {at} {v} W e R h = record { long = R .long; split = λ k 
     past-last : (k : ℕ) → k ≤ 128 → v ≤ k → Split (FromBelow b k) n (getD r k 0)
     past-last k l g = rw (R .later k g (omega arith)) (record { within = omega arith; below = λ i m. record { is = omega (arith, W .each i (omega arith) .from-high) }; above = λ i m j. absurd (omega arith) })
 
+abbrev pub span-of : ℕ → ℕ → Span
+span-of a e = record { from = a; to = e }
+
 -- a vertex has an entry, and a next one
 module _ {b r : List ℕ} (R : Begins b r) (u : ℕ) (l : u < 128) where
   pub begin-order : getD r u 0 ≤ getD r (u + 1) 0
@@ -131,6 +134,9 @@ module _ {b r : List ℕ} (R : Begins b r) (u : ℕ) (l : u < 128) where
 
   pub begin-high : getD r (u + 1) 0 ≤ countOf b
   begin-high = R .split (u + 1) (omega arith) .within
+
+  pub begins-range : RangeOf b u (span-of (getD r u 0) (getD r (u + 1) 0))
+  begins-range = record { begins = R .split u (omega arith); ends = R .split (u + 1) (omega arith) }
 
 -- one answer
 pub begins-one : {b r t : List ℕ} → Begins b r → Begins b t → r ≡ t
@@ -148,8 +154,5 @@ range-high {b} {n} {v} W e h = record { begins = all v h; ends = all (v + 1) (om
     }
 
 -- one answer
-abbrev span-of : ℕ → ℕ → Span
-span-of a e = record { from = a; to = e }
-
 pub range-one : {b : List ℕ} {v : ℕ} {r t : Span} → RangeOf b v r → RangeOf b v t → r ≡ t
 range-one R S = ap₂ span-of (split-one (R .begins) (S .begins)) (split-one (R .ends) (S .ends))

@@ -5,7 +5,7 @@ use Prim.Native.Nat.{ℕ, zero, suc, _+_, _-_, _*_, _≤_, _<_}
 use native.Mathlib.Nat.{add-zero, zero-add, add-suc, suc-add}
 use native.Mathlib.Omega.{arith}
 use lib.ListN.{length, getD, take, drop, length-drop}
-use lib.Seq.{take-add, drop-drop, getD-take, getD-drop, length-take-le}
+use lib.Seq.{take-add, drop-drop, getD-take, getD-drop, length-take-le, ext-getD}
 use lib.Dec.{leb}
 use borrow.Author.Tests.{eq-eqb, ne-eqb, leb-true, leb-false}
 use Rattle.theory.specs.Tests.{lowest}
@@ -16,8 +16,9 @@ use Rattle.bits.specs.Bits.{Bytes}
 use Rattle.bits.specs.declared.Span.{Span}
 use Rattle.chart.specs.Bodies.{verticesOf, countOf, fromOf, WellFormed}
 use Rattle.bits.specs.First.{Split}
+use Rattle.bits.proofs.Determined.{split-one}
 use Rattle.chart.specs.Checks.{checkOf}
-use Rattle.chart.specs.Leaving.{leavingAt, leavingOf, FromBelow, RangeOf}
+use Rattle.chart.specs.Leaving.{leavingAt, leavingOf, FromBelow, RangeOf, OneRange}
 use Rattle.chart.specs.Parts.{PartOf}
 use Rattle.chart.proofs.Checks.{well-formed}
 use Rattle.chart.proofs.Order.{first-above, low-high, at-low, at-mid, at-high}
@@ -64,6 +65,21 @@ leaving-passed : (b : List ℕ) (v : ℕ) → checkOf b ≡ Passed → leavingOf
 unfolding leavingOf
 leaving-passed b v e = rw e
 
+-- the range of a vertex, in numbers
+pub record RangeFits (b : List ℕ) (r : Span) : Type 0 where
+  pub order : r .from ≤ r .to
+  pub within : r .to ≤ countOf b
+  pub few : countOf b ≤ 8192
+  pub whole : length b ≡ 4 + 4 * countOf b
+
+pub range-fits : {b : List ℕ} {r : Span} → checkOf b ≡ Passed → OneRange b r → RangeFits b r
+range-fits {b} e (v, R) = let W = well-formed b e in record {
+  order = low-high (R .begins) (R .ends);
+  within = R .ends .within;
+  few = W .header .count-high;
+  whole = W .header .whole;
+}
+
 pub leaving-range : {b : List ℕ} {v : ℕ} {r : Span} → checkOf b ≡ Passed → RangeOf b v r
     → take (4 * r .to + 4 - (4 * r .from + 4)) (drop (4 * r .from + 4) b) ≡ leavingOf b v
 leaving-range {b} {v} {r} e R = leaving-part b (countOf b) v (r .from) (r .to) (R .begins) (R .ends) ∙ sym (leaving-passed b v e)
@@ -94,6 +110,13 @@ module _ {b : List ℕ} {v lo hi : ℕ} (W : WellFormed b) (L : Split (FromBelow
             ∙ getD-drop (4 * lo + 4) b i 0;
       }
 
+part-one : {b p q : List ℕ} {v : ℕ} → PartOf b v p → PartOf b v q → p ≡ q
+part-one {b} {p} {q} S T =
+    let a : S .at ≡ T .at = split-one (S .begins) (T .begins) in
+    let n = split-one (S .ends) (T .ends) in
+    let l : length p ≡ length q = omega (arith, S .whole, T .whole, a, n) in
+    ext-getD 0 p q l (λ i h. S .same i h ∙ ap (λ (j : ℕ). getD b (4 * j + 4 + i) 0) a ∙ sym (T .same i (omega (arith, h, l))))
+
 -- where the transitions of a vertex begin, in a body of bytes that passes
 module _ (b : List ℕ) (B : Bytes b) where
   -- the first transition whose from is not below u
@@ -120,3 +143,7 @@ module _ (b : List ℕ) (B : Bytes b) where
   -- BY INDEX: the transitions of v, where the body passes
   pub leaving-by-index : (v : ℕ) → checkOf b ≡ Passed → PartOf b v (leavingOf b v)
   leaving-by-index v e = let W = well-formed b e in part-between W (parts W v) (parts W (v + 1)) (passed-part v e)
+
+  -- and no other list is
+  pub leaving-only : {v : ℕ} {part : List ℕ} → checkOf b ≡ Passed → PartOf b v part → part ≡ leavingOf b v
+  leaving-only {v} e S = part-one S (leaving-by-index v e)

@@ -1,11 +1,10 @@
 -- The targets of a vertex by an action, and the actions that a set offers, gathered vertex by vertex.
 use Prim.Native.Nat.{ℕ, suc, _+_, _-_, _*_, _≤_, _<_}
-use mathlib.Core.Path.{_≡_, refl, sym, _∙_, subst}
-use mathlib.Core.Logic.{_≢_, ⊎-elim, by-cases}
+use mathlib.Core.Path.{_≡_, refl, sym, ap, _∙_, subst}
+use mathlib.Core.Logic.{_≢_, _⊎_, _↔_, ⊎-elim, by-cases}
 use mathlib.Core.Bool.{Bool, true, false, cond}
 use mathlib.Core.List.{List, _∷_}
 use native.Mathlib.Decide.{ℕ-discrete, decLt}
-use native.Mathlib.Nat.{eq-or-lt-of-le, le-refl}
 use native.Mathlib.Numerals.{add-one}
 use native.Mathlib.Omega.{arith}
 use lib.Dec.{eqb}
@@ -13,95 +12,114 @@ use lib.ListN.{length, getD, set, length-set, replicate, List·getD-eq-default}
 use lib.Seq.{getD-set-same, getD-set-other, ext-getD}
 use Rattle.theory.specs.Tests.{Decides}
 use Rattle.theory.proofs.Tests.{decided, decides-same, decides-and, decides-eqb, decides-below}
-use Rattle.bits.specs.Bits.{Bytes, listFrom}
+use Rattle.bits.specs.Bits.{listFrom}
 use Rattle.bits.specs.declared.sets.Set.{Set}
-use Rattle.bits.specs.First.{Split}
-use Rattle.bits.specs.Sets.{Empty}
-use Rattle.report.specs.declared.Stage.the-variants as stage
-use Rattle.chart.proofs.Checks.{well-formed}
-use Rattle.chart.proofs.Order.{begin-order, begin-high, at-mid, actions-sorted}
+use Rattle.bits.specs.Sets.{Has, emptySet, Empty, Members}
+use Rattle.chart.proofs.Rows.{EntersBelow, enters-nothing, enters-more, enters-rest, enters-all, acts-same}
 use Rattle.bits.proofs.Gains.{blank}
 use Rattle.bits.proofs.Visits.{Visit, FromPast, past-none, past-still, past-new, past-or, past-all}
-use Rattle.chart.specs.Bodies.{countOf, fromOf, actionOf, WellFormed}
-use Rattle.chart.specs.Checks.{checkOf}
-use Rattle.chart.specs.Leaving.{FromBelow, Begins}
-use Rattle.chart.specs.Steps.{Acts}
-use Rattle.chart.specs.Images.{ActsFrom, Offers, Marks, MarksMore, Stretch, Lower}
+use Rattle.chart.specs.Bodies.{countOf, fromOf, actionOf}
+use Rattle.chart.specs.Parts.{countIn, actionIn, PartOf, Row, ActsAt, ActsTo, ActsIn, Lower}
+use Rattle.chart.specs.Images.{ActsFrom, Offers, Marks, MarksMore}
 
-pub decides-acts : {body : List ℕ} {i b : ℕ} (a : ℕ) → b ≡ actionOf body i → Decides (eqb b a) (Acts body a i)
+decides-acts : {part : List ℕ} {i b : ℕ} (a : ℕ) → b ≡ actionIn part i → Decides (eqb b a) (ActsAt part a i)
 decides-acts {b = b} a e = decides-same ((λ p. record { is = sym e ∙ p }), (λ q. e ∙ q .is)) (decides-eqb b a)
 
-module _ {b : List ℕ} {u at end a : ℕ} (B : Bytes b) (S : Stretch b u at end) where
-  pub lower-none : Lower b a at end at
-  lower-none = record { from = le-refl at; to = S .order; below = λ k p q. absurd (omega (arith, p, q)) }
+-- BY EIGHTS over lower actions: those before the eight transitions that would end at byte e
+pub record Passing (part : List ℕ) (a e : ℕ) : Type 0 where
+  pub row : Row part
+  pub index : ℕ
+  pub place : e ≡ 4 * index + 32
+  pub within : index ≤ countIn part
+  pub below : (i : ℕ) → i < index → actionIn part i < a
 
-  pub lower-more : {i x : ℕ} → Lower b a at end i → i + 8 ≤ end → x ≡ actionOf b (i + 7) → x < a → Lower b a at end (i + 8)
-  lower-more {i} {x} L h e l = record {
-    from = omega (arith, L .from);
-    to = h;
-    below = λ k p q. by-cases (decLt k i) (L .below k p) (λ g.
-        let s = actions-sorted b B (well-formed b (S .passed)) k (i + 7) (omega (arith, q))
-        (omega (arith, h, S .within)) (S .leaves k p (omega (arith, q, h))
-        ∙ sym (S .leaves (i + 7) (omega (arith, L .from)) (omega (arith, h)))) in
-        omega (arith, s, e, l));
+module _ {part : List ℕ} {a : ℕ} where
+  pub passing-none : Row part → Passing part a 32
+  passing-none R = record { row = R; index = 0; place = refl; within = omega arith; below = λ k l. absurd (omega (arith, l)) }
+
+  pub passing-more : {e x : ℕ} → Passing part a e → e ≤ length part → x ≡ getD part (e - 3) 0 → x < a → Passing part a (e + 32)
+  passing-more {e} {x} L h f l =
+      let z : e - 3 ≡ 4 * (L .index + 7) + 1 = omega (arith, L .place) in
+      let g : x ≡ actionIn part (L .index + 7) = f ∙ ap (λ (j : ℕ). getD part j 0) z in
+      let w : L .index + 8 ≤ countIn part = omega (arith, h, L .place) in
+      record {
+        row = L .row;
+        index = L .index + 8;
+        place = omega (arith, L .place);
+        within = w;
+        below = λ k q. omega (arith, L .row .sorted k (L .index + 7) (omega (arith, q)) (omega (arith, w)), g, l);
+      }
+
+  pub passing-stops : {e : ℕ} → Passing part a e → Lower part a (e - 32)
+  passing-stops L = record { index = L .index; place = omega (arith, L .place); within = L .within; below = L .below }
+
+  -- before the place where it is not lower, none has the action
+  pub lower-nothing : {p : ℕ} → (L : Lower part a p) → (k : ℕ) → k < L .index → ¬ ActsAt part a k
+  lower-nothing L k q y = omega (arith, L .below k q, y .is)
+
+-- THE TARGETS BY AN ACTION, of the transitions before byte p
+pub record Gathered (part : List ℕ) (a p : ℕ) (s : Set) : Type 0 where
+  pub row : Row part
+  pub index : ℕ
+  pub place : p ≡ 4 * index
+  pub within : index ≤ countIn part
+  pub members : Members (EntersBelow part (ActsAt part a) index) s
+
+pub gathered-none : {part : List ℕ} {a p : ℕ} {s : Set} → Row part → Lower part a p → s ≡ emptySet → Gathered part a p s
+gathered-none R L e = record {
+  row = R;
+  index = L .index;
+  place = L .place;
+  within = L .within;
+  members = enters-nothing (lower-nothing L) e;
+}
+
+module _ {part : List ℕ} {a p : ℕ} {s : Set} (G : Gathered part a p s) where
+  -- a byte of the transition at p
+  here : {x : ℕ} (k : ℕ) → x ≡ getD part (p + k) 0 → x ≡ getD part (4 * G .index + k) 0
+  here k e = e ∙ ap (λ (j : ℕ). getD part (j + k) 0) (G .place)
+
+  pub gathered-within : p < length part → G .index < countIn part
+  gathered-within h = omega (arith, h, G .place, G .row .whole)
+
+  pub gathered-low : {t : ℕ} → p < length part → t ≡ getD part (p + 2) 0 → t < 128
+  gathered-low h e = rw (here 2 e) (G .row .low (G .index) (gathered-within h))
+
+  pub gathered-more : {x t : ℕ} {r : Set} → p < length part → x ≡ getD part (p + 1) 0 → t ≡ getD part (p + 2) 0
+      → ((y : ℕ) → Has r y ↔ (Has s y ⊎ ((eqb x a ≡ true) × (y ≡ t)))) → Gathered part a (p + 4) r
+  gathered-more h e f W = record {
+    row = G .row;
+    index = G .index + 1;
+    place = omega (arith, G .place);
+    within = omega (arith, gathered-within h);
+    members = enters-more (gathered-within h) (sym (here 2 f)) (decides-acts a (here 1 e)) W (G .members);
   }
 
   -- from one that is higher on, none has the action
-  pub higher-rest : {i x : ℕ} → at ≤ i → i < end → x ≡ actionOf b i → a < x → Split (FromBelow b (u + 1)) (countOf b) end
-      → (k : ℕ) → i ≤ k → k < countOf b → fromOf b k ≡ u → ¬ Acts b a k
-  higher-rest {i} {x} f h e l T k p q z y = by-cases (decLt k end)
-      (λ g. let s = actions-sorted b B (well-formed b (S .passed)) i k p q (S .leaves i f h ∙ sym z) in omega (arith, s, e, l, y .is))
-      (λ g. T .above k (omega (arith, g)) q (record { is = omega (arith, z) }))
+  pub gathered-stops : {x : ℕ} → x ≡ getD part (p + 1) 0 → a < x → Members (ActsTo part a) s
+  gathered-stops e l = enters-rest (λ k q h y. omega (arith, G .row .sorted (G .index) k q h, here 1 e, l, y .is)) (G .members)
 
-  -- before the place where it is not lower, neither
-  pub lower-nothing : {i : ℕ} → Lower b a at end i → Split (FromBelow b u) (countOf b) at → (k : ℕ) → k < i → fromOf b k ≡ u → ¬ Acts b a k
-  lower-nothing L T k p z y = by-cases (decLt k at)
-      (λ g. omega (arith, T .below k g .is, z))
-      (λ g. omega (arith, L .below k (omega (arith, g)) p, y .is))
+  pub gathered-all : length part ≤ p → Members (ActsTo part a) s
+  gathered-all h = enters-all (omega (arith, h, G .place, G .row .whole)) (G .members)
 
-pub row-stretch : {b begins : List ℕ} {u : ℕ} → checkOf b ≡ stage.Passed → Begins b begins → u < 128
-    → Stretch b u (getD begins u 0) (getD begins (u + 1) 0)
-row-stretch {u = u} C R h = record {
-  passed = C;
-  order = begin-order R u h;
-  within = begin-high R u h;
-  leaves = at-mid (R .split u (omega (arith, h))) (R .split (u + 1) (omega (arith, h)));
-}
+-- THE MARKS of a part's actions, before transition i
+abbrev pub ActsBelow : List ℕ → ℕ → ℕ → Type 0
+ActsBelow part i a = (e : ActsIn part a) × (e .acts .at < i)
 
--- THE MARKS of one vertex's actions, before transition i
-abbrev pub ActsBelow : List ℕ → ℕ → ℕ → ℕ → Type 0
-ActsBelow b u i a = (e : ActsFrom b u a) × (e .acts .at < i)
+module _ {part : List ℕ} where
+  pub marks-none : {m : List ℕ} → MarksMore (ActsBelow part 0) m m
+  marks-none = record { long = refl; marked = λ a h (e, l). absurd (omega (arith, l)); others = λ a n. refl }
 
-module _ {b : List ℕ} {u : ℕ} where
-  pub marks-none : {i : ℕ} {m : List ℕ} → Split (FromBelow b u) (countOf b) i → MarksMore (ActsBelow b u i) m m
-  marks-none S =
-      record {
-        long = refl;
-        marked = λ a h
-            (e, l). absurd (omega (arith, S .below (e .acts .at) l .is, e .acts .leaves));
-        others = λ a n. refl;
-      }
-
-  pub marks-more : {i x : ℕ} {before after : List ℕ} → length before ≡ 256 → i < countOf b → fromOf b i ≡ u → x ≡ actionOf b i → x < 256
-      → MarksMore (ActsBelow b u i) before after → MarksMore (ActsBelow b u (i + 1)) before (set after x 1)
-  marks-more {i} {x} {before} {after} long h e k low M = record {
+  pub marks-more : {i x : ℕ} {before after : List ℕ} → length before ≡ 256 → i < countIn part → x ≡ actionIn part i → x < 256
+      → MarksMore (ActsBelow part i) before after → MarksMore (ActsBelow part (i + 1)) before (set after x 1)
+  marks-more {i} {x} {before} {after} long h k low M = record {
     long = length-set after x 1 ∙ M .long;
     marked = λ a l (f, g). by-cases (ℕ-discrete a x)
         (λ z. here a z)
         (λ z. there a z ∙ M .marked a l (f, below a f g z));
     others = λ a n. by-cases (ℕ-discrete a x)
         (λ z. absurd (n (
-          record {
-            to = _;
-            acts = record {
-              at = i;
-              within = h;
-              leaves = e;
-              enters = refl;
-              holds =
-                  record { is = sym k ∙ sym z };
-            };
-          },
+          record { to = _; acts = record { at = i; within = h; enters = refl; holds = record { is = sym k ∙ sym z } } },
           omega arith,
         )))
         (λ z. there a z ∙ M .others a (λ (f, g). n (f, omega (arith, g))));
@@ -113,20 +131,27 @@ module _ {b : List ℕ} {u : ℕ} where
       there : (a : ℕ) → a ≢ x → getD (set after x 1) a 0 ≡ getD after a 0
       there a n = getD-set-other after x a 1 0 n
 
-      below : (a : ℕ) (f : ActsFrom b u a) → f .acts .at < i + 1 → a ≢ x → f .acts .at < i
+      below : (a : ℕ) (f : ActsIn part a) → f .acts .at < i + 1 → a ≢ x → f .acts .at < i
       below a f g n = by-cases (ℕ-discrete (f .acts .at) i)
-          (λ z. absurd (n (sym (f .acts .holds .is) ∙ subst (λ (j : ℕ). actionOf b j ≡ x) (sym z) (sym k))))
+          (λ z. absurd (n (sym (f .acts .holds .is) ∙ subst (λ (j : ℕ). actionIn part j ≡ x) (sym z) (sym k))))
           (λ z. omega (arith, g, z))
 
-  pub marks-all : {i end : ℕ} {before after : List ℕ} → Split (FromBelow b (u + 1)) (countOf b) end → end ≤ i
-      → MarksMore (ActsBelow b u i) before after
-      → MarksMore (ActsFrom b u) before after
-  marks-all {i} S l M = record { long = M .long; marked = λ a h e. M .marked a h (e, early e); others = λ a n. M .others a (λ e. n (e .0)) }
-    where
-      early : {a : ℕ} (e : ActsFrom b u a) → e .acts .at < i
-      early e =
-          by-cases (decLt (e .acts .at) i) (λ g. g) (λ g.
-          absurd (S .above (e .acts .at) (omega (arith, g, l)) (e .acts .within) (record { is = omega (arith, e .acts .leaves) })))
+  pub marks-all : {i : ℕ} {before after : List ℕ} → countIn part ≤ i → MarksMore (ActsBelow part i) before after
+      → MarksMore (ActsIn part) before after
+  marks-all l M = record {
+    long = M .long;
+    marked = λ a h e. M .marked a h (e, omega (arith, e .acts .within, l));
+    others = λ a n. M .others a (λ e. n (e .0));
+  }
+
+-- of the part that a lookup hands back
+pub row-marks : {b part before after : List ℕ} {v : ℕ} → PartOf b v part → MarksMore (ActsIn part) before after
+    → MarksMore (ActsFrom b v) before after
+row-marks S M = record {
+  long = M .long;
+  marked = λ a h e. M .marked a h (record { to = _; acts = acts-same S a _ .1 (e .acts) });
+  others = λ a n. M .others a (λ e. n (record { to = _; acts = acts-same S a _ .0 (e .acts) }));
+}
 
 -- has u a transition with the action a?
 acts-from? : (b : List ℕ) (u a : ℕ) → Dec (ActsFrom b u a)

@@ -9,9 +9,6 @@ use lib.ListN.{length, getD}
 use Rattle.bits.specs.Bits.{listFrom}
 use Rattle.bits.specs.declared.sets.Set.{Set}
 use Rattle.bits.specs.Sets.{Has}
-use Rattle.report.specs.declared.Stage.the-variants.{Passed}
-use Rattle.chart.specs.Bodies.{countOf, fromOf, actionOf}
-use Rattle.chart.specs.Checks.{checkOf}
 use Rattle.chart.specs.Steps.{ActsOf}
 
 -- a transition with the action a leads from a vertex of the set to w
@@ -60,16 +57,3 @@ pub record MarksMore (P : ℕ → Type 0) (before after : List ℕ) : Type 0 whe
 -- the numbers that are marked, ascending
 abbrev pub markedOf : List ℕ → List ℕ
 markedOf marks = listFrom (λ a. eqb (getD marks a 0) 1) 0 256
-
--- the transitions from one place up to another, of a body that passes, all leave u
-pub record Stretch (b : List ℕ) (u at end : ℕ) : Type 0 where
-  pub passed : checkOf b ≡ Passed
-  pub order : at ≤ end
-  pub within : end ≤ countOf b
-  pub leaves : (k : ℕ) → at ≤ k → k < end → fromOf b k ≡ u
-
--- r is a place from `at` up to `end`, and the actions before it are lower than a
-pub record Lower (b : List ℕ) (a at end r : ℕ) : Type 0 where
-  pub from : at ≤ r
-  pub to : r ≤ end
-  pub below : (k : ℕ) → at ≤ k → k < r → actionOf b k < a

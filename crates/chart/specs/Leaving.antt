@@ -38,6 +38,10 @@ pub record RangeOf (b : List ℕ) (v : ℕ) (r : Span) : Type 0 where
   pub begins : Split (FromBelow b v) (countOf b) (r .from)
   pub ends : Split (FromBelow b (v + 1)) (countOf b) (r .to)
 
+-- of some vertex
+abbrev pub OneRange : List ℕ → Span → Type 0
+OneRange b r = (v : ℕ) × RangeOf b v r
+
 -- a place of a body of n transitions that passes, not past those of v
 pub record NotPast (b : List ℕ) (n v at : ℕ) : Type 0 where
   pub passed : checkOf b ≡ Passed

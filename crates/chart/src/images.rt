@@ -1,8 +1,10 @@
 // Where an action leads from a set of vertices, which actions the set offers, the lowest that leads into another set,
-// and where a vertex leads.
+// and where a vertex leads. The loops go over a vertex's part of the body. Where they go by index, its number of
+// transitions goes beside the part: the compiler does not see that the length is four times that.
+use crate::many_of;
+use crate::part_of;
 use bits::Set;
 use bits::byte;
-use crate::part_of;
 use report::Stage;
 ghost use mathlib.Core.Path.{_≡_};
 ghost use mathlib.Core.Bool.{cond};
@@ -12,42 +14,41 @@ ghost use Rattle.bits.specs.First.{First};
 ghost use Rattle.bits.specs.Sets.{Members};
 ghost use Rattle.chart.specs.Checks.{checkOf};
 ghost use Rattle.chart.specs.Leaving.{Begins};
-ghost use Rattle.chart.specs.Steps.{ActsOf};
-ghost use Rattle.chart.specs.Images.{Image, ActsFrom, Offers, Marks, MarksMore, markedOf, Stretch, Lower};
-ghost use Rattle.chart.specs.Images.{ActsInto, LeadsInto, LeadsTo};
-ghost use Rattle.chart.specs.Parts.{Row, Enters, Every};
+ghost use Rattle.chart.specs.Images.{Image, Offers, Marks, MarksMore, markedOf};
+ghost use Rattle.chart.specs.Images.{LeadsInto, LeadsTo};
+ghost use Rattle.chart.specs.Parts.{countIn, Row, Enters, Every, ActsTo, Lower, EntersSet, ActsIn};
 
-// From a place among the transitions of u on to another, by eights: their actions do not fall, and those passed are below
+// From the start of a part on to another place in it, by eight transitions: actions do not fall, and those passed are below
 // this one.
-fn skip_lower(body: &[u8], at: usize, end: usize, u: usize, action: usize) -> usize
-    requires { ⌜ Stretch (now body) u at end ⌝ }
-    ensures { λ r. ⌜ Lower (now (body .entry)) action at end r ⌝ }
+fn skip_lower(part: &[u8], action: usize) -> usize
+    requires { ⌜ Row (now part) ⌝ }
+    ensures { λ r. ⌜ Lower (now (part .entry)) action r ⌝ }
 {
-    let mut i = at;
-    while i + 8 <= end {
-        if byte(body, 4 * (i + 7) + 4 + 1) >= action {
-            return i;
+    // where the next eight end
+    let mut end: usize = 32;
+    while end <= part.len() {
+        if byte(part, end - 3) >= action {
+            return end - 32;
         }
-        i += 8;
+        end += 32;
     }
-    i
+    end - 32
 }
 
-// What the transitions of u with this action lead to.
-fn action_row(body: &[u8], begins: &[usize; 129], u: usize, action: usize) -> Set
-    requires { ⌜ (checkOf (now body) ≡ Stage.Passed) × Begins (now body) (now begins) × (u < 128) ⌝ }
-    ensures { λ r. ⌜ Members (ActsOf (now (body .entry)) u action) r ⌝ }
+// What the transitions of a part with this action lead to.
+fn action_row(part: &[u8], action: usize) -> Set
+    requires { ⌜ Row (now part) ⌝ }
+    ensures { λ r. ⌜ Members (ActsTo (now (part .entry)) action) r ⌝ }
 {
-    let end = begins[u + 1];
     let mut set = Set::empty();
-    let mut i = skip_lower(body, begins[u], end, u, action);
-    while i < end {
-        let acting = byte(body, 4 * i + 4 + 1);
+    let mut p = skip_lower(part, action);
+    while p < part.len() {
+        let acting = byte(part, p + 1);
         if acting > action {
             return set;
         }
-        set = set.with_if(byte(body, 4 * i + 4 + 2), acting == action);
-        i += 1;
+        set = set.with_if(byte(part, p + 2), acting == action);
+        p += 4;
     }
     set
 }
@@ -61,24 +62,23 @@ pub fn image(body: &[u8], begins: &[usize; 129], set: Set, action: usize) -> Set
     let mut left = set;
     let mut u = left.lowest();
     while u < 128 {
-        targets = targets.union(action_row(body, begins, u, action));
+        targets = targets.union(action_row(part_of(body, begins, u), action));
         left = left.without_lowest();
         u = left.lowest();
     }
     targets
 }
 
-// The lowest action below `best` by which u leads into a set, or `best`: the actions of u do not fall, so that the first
+// The lowest action below `best` by which a part leads into a set, or `best`: its actions do not fall, so that the first
 // transition into the set has the lowest.
-fn lowest_of_row(body: &[u8], begins: &[usize; 129], u: usize, aim: Set, best: usize) -> usize
-    requires { ⌜ (checkOf (now body) ≡ Stage.Passed) × Begins (now body) (now begins) × (u < 128) ⌝ }
-    ensures { λ r. ⌜ First (ActsInto (now (body .entry)) u aim) 0 best r ⌝ }
+fn lowest_of_row(part: &[u8], n: usize, aim: Set, best: usize) -> usize
+    requires { ⌜ Row (now part) × (n ≡ countIn (now part)) ⌝ }
+    ensures { λ r. ⌜ First (EntersSet (now (part .entry)) aim) 0 best r ⌝ }
 {
-    let end = begins[u + 1];
-    let mut i = begins[u];
-    while i < end {
-        if aim.contains(byte(body, 4 * i + 4 + 2)) {
-            let action = byte(body, 4 * i + 4 + 1);
+    let mut i: usize = 0;
+    while i < n {
+        if aim.contains(byte(part, 4 * i + 2)) {
+            let action = byte(part, 4 * i + 1);
             if action < best {
                 return action;
             }
@@ -98,26 +98,21 @@ pub fn lowest_into(body: &[u8], begins: &[usize; 129], set: Set, aim: Set) -> us
     let mut left = set;
     let mut u = left.lowest();
     while u < 128 {
-        best = lowest_of_row(body, begins, u, aim, best);
+        best = lowest_of_row(part_of(body, begins, u), many_of(begins, u), aim, best);
         left = left.without_lowest();
         u = left.lowest();
     }
     best
 }
 
-// Marks the actions of the transitions of u.
-fn mark_row(body: &[u8], begins: &[usize; 129], u: usize, marks: &mut [u8; 256])
-    requires { ⌜ (checkOf (now body) ≡ Stage.Passed)
-        × Begins (now body) (now begins)
-        × (u < 128)
-        × (length (now marks) ≡ 256) ⌝ }
-    ensures { λ _. ⌜ MarksMore (ActsFrom (now (body .entry)) u)
-        (now (marks .entry)) (now (marks .exit)) ⌝ }
+// Marks the actions of the transitions of a part.
+fn mark_row(part: &[u8], n: usize, marks: &mut [u8; 256])
+    requires { ⌜ (n ≡ countIn (now part)) × (length (now marks) ≡ 256) ⌝ }
+    ensures { λ _. ⌜ MarksMore (ActsIn (now (part .entry))) (now (marks .entry)) (now (marks .exit)) ⌝ }
 {
-    let end = begins[u + 1];
-    let mut i = begins[u];
-    while i < end {
-        let action = byte(body, 4 * i + 4 + 1);
+    let mut i: usize = 0;
+    while i < n {
+        let action = byte(part, 4 * i + 1);
         marks[action] = 1;
         i += 1;
     }
@@ -132,7 +127,7 @@ pub fn offered(body: &[u8], begins: &[usize; 129], set: Set) -> [u8; 256]
     let mut left = set;
     let mut u = left.lowest();
     while u < 128 {
-        mark_row(body, begins, u, &mut marks);
+        mark_row(part_of(body, begins, u), many_of(begins, u), &mut marks);
         left = left.without_lowest();
         u = left.lowest();
     }
@@ -161,11 +156,10 @@ pub fn count_marks(marks: &[u8; 256]) -> usize
 }
 
 // What the transitions of a part lead to.
-fn targets_in(part: &[u8]) -> Set
-    requires { ⌜ Row (now part) ⌝ }
+fn targets_in(part: &[u8], n: usize) -> Set
+    requires { ⌜ Row (now part) × (n ≡ countIn (now part)) ⌝ }
     ensures { λ r. ⌜ Members (Enters (now (part .entry)) Every) r ⌝ }
 {
-    let n = part.len() / 4;
     let mut set = Set::empty();
     let mut i: usize = 0;
     while i < n {
@@ -180,5 +174,5 @@ pub fn target_row(body: &[u8], begins: &[usize; 129], u: usize) -> Set
     requires { ⌜ (checkOf (now body) ≡ Stage.Passed) × Begins (now body) (now begins) × (u < 128) ⌝ }
     ensures { λ r. ⌜ Members (LeadsTo (now (body .entry)) u) r ⌝ }
 {
-    targets_in(part_of(body, begins, u))
+    targets_in(part_of(body, begins, u), many_of(begins, u))
 }

@@ -3,13 +3,14 @@ pub mod images;
 
 ghost use mathlib.Core.Path.{_≡_};
 ghost use mathlib.Core.Bool.{true};
-ghost use Prim.Native.Nat.{ℕ, _+_, _*_, _≤_, _<_};
-ghost use lib.ListN.{length};
+ghost use Prim.Native.Nat.{ℕ, _+_, _-_, _*_, _≤_, _<_};
+ghost use lib.ListN.{length, getD};
 ghost use Rattle.chart.specs.Bodies.{verticesOf, countOf, HeaderFits, SoundTo};
 ghost use Rattle.chart.specs.Checks.{headerOk, checkOf};
 ghost use Rattle.chart.specs.Codes.{codeKey, codeRises, codeOk, Turn};
-ghost use Rattle.chart.specs.Leaving.{leavingOf, FromBelow, RangeOf, NotPast, Begins};
-ghost use Rattle.chart.specs.Steps.{Kept};
+ghost use Rattle.chart.specs.Leaving.{leavingOf, FromBelow, RangeOf, OneRange, NotPast, Begins};
+ghost use Rattle.chart.specs.Parts.{countIn, Row, Enters};
+ghost use Rattle.chart.specs.Steps.{At, Kept};
 ghost use Rattle.bits.specs.First.{Split};
 ghost use Rattle.bits.specs.Sets.{Members};
 use bits::Set;
@@ -175,11 +176,9 @@ pub fn range_of(body: &[u8], v: usize) -> Span
     Span { from, to }
 }
 
-// The transitions that stand in a range of a body that passes, as a part of it.
+// The transitions of the vertex whose range this is, as a part of a body that passes.
 pub fn part_in(body: &[u8], range: Span) -> &[u8]
-    requires { ⌜ (checkOf (now body) ≡ Stage.Passed)
-        × (range .from ≤ range .to)
-        × (range .to ≤ countOf (now body)) ⌝ }
+    requires { ⌜ (checkOf (now body) ≡ Stage.Passed) × OneRange (now body) range ⌝ }
     ensures { λ r. ⌜ ((v : ℕ) → RangeOf (now (body .entry)) v range → now r ≡ leavingOf (now (body .entry)) v) ⌝ }
 {
     let a = 4 * range.from + 4;
@@ -268,6 +267,29 @@ pub fn part_of<'a>(body: &'a [u8], begins: &[usize; 129], u: usize) -> &'a [u8]
     part_in(body, range)
 }
 
+// How many transitions leave u, by where those of each vertex begin.
+fn many_of(begins: &[usize; 129], u: usize) -> usize
+    requires { ⌜ (length (now begins) ≡ 129) × (u < 128) × (getD (now begins) u 0 ≤ getD (now begins) (u + 1) 0) ⌝ }
+    ensures { λ r. ⌜ r ≡ getD (now (begins .entry)) (u + 1) 0 - getD (now (begins .entry)) u 0 ⌝ }
+{
+    begins[u + 1] - begins[u]
+}
+
+// What the transitions of a part lead to whose `keep` byte is 1.
+fn kept_in(part: &[u8], keep: &[u8]) -> Set
+    requires { ⌜ Row (now part) × (length (now keep) ≡ countIn (now part)) ⌝ }
+    ensures { λ r. ⌜ Members (Enters (now (part .entry)) (At (now (keep .entry)) 1)) r ⌝ }
+{
+    let n = keep.len();
+    let mut set = Set::empty();
+    let mut i: usize = 0;
+    while i < n {
+        set = set.with_if(byte(part, 4 * i + 2), byte(keep, i) == 1);
+        i += 1;
+    }
+    set
+}
+
 // What the transitions of u lead to whose `keep` byte is 1.
 pub fn kept_row(body: &[u8], keep: &[u8], begins: &[usize; 129], u: usize) -> Set
     requires { ⌜ (checkOf (now body) ≡ Stage.Passed)
@@ -276,12 +298,7 @@ pub fn kept_row(body: &[u8], keep: &[u8], begins: &[usize; 129], u: usize) -> Se
         × (u < 128) ⌝ }
     ensures { λ r. ⌜ Members (Kept (now (body .entry)) (now (keep .entry)) u) r ⌝ }
 {
-    let end = begins[u + 1];
-    let mut set = Set::empty();
-    let mut i = begins[u];
-    while i < end {
-        set = set.with_if(byte(body, 4 * i + 4 + 2), byte(keep, i) == 1);
-        i += 1;
-    }
-    set
+    let from = begins[u];
+    let to = begins[u + 1];
+    kept_in(part_of(body, begins, u), &keep[from..to])
 }

@@ -6,6 +6,7 @@ use bits::Set;
 use bits::Span;
 use bits::byte;
 use bits::highest_byte;
+use chart::part_in;
 use chart::range_of;
 use loop_list::list_fits;
 use loop_list::start_in;
@@ -27,8 +28,9 @@ ghost use Rattle.theory.specs.Orders.{Listing};
 ghost use Rattle.bits.specs.Sets.{Members};
 ghost use Rattle.chart.specs.Bodies.{countOf};
 ghost use Rattle.chart.specs.Checks.{checkOf};
-ghost use Rattle.chart.specs.Leaving.{RangeOf, Begins};
-ghost use Rattle.chart.specs.Steps.{StandingOf};
+ghost use Rattle.chart.specs.Leaving.{RangeOf, OneRange, Begins};
+ghost use Rattle.chart.specs.Parts.{countIn, Row, Enters};
+ghost use Rattle.chart.specs.Steps.{StandingOf, Stands};
 ghost use Rattle.chart.specs.Standing.{TakenOut, TakenOutOf};
 ghost use Rattle.elimination.specs.Removals.{removalOf, leftOf};
 ghost use Rattle.elimination.specs.RemovalAnswers.{StandingFits, Fits};
@@ -44,24 +46,41 @@ fn standing_fits(standing: &[u8], n: usize) -> bool
     (standing.len() == n) & (highest_byte(standing) <= 1)
 }
 
-// What the standing entries of a level lead to that are in the range of a vertex; where there is none, nothing.
-fn entry_targets(chart: &[u8], labels: &[u8], level: usize, range: Span, standing: &[u8]) -> Set
-    requires { ⌜ Fits (now chart) (now labels) (now standing) × (range .to ≤ countOf (now chart)) ⌝ }
-    ensures { λ r. ⌜ ((v : ℕ) → RangeOf (now (chart .entry)) v range → Members
-        (EntryTargets (now (chart .entry)) (now (labels .entry)) (now (standing .entry)) v level) r) ⌝ }
+// What the transitions of a part lead to that have this label and stand.
+fn labelled_in(part: &[u8], labels: &[u8], level: usize, standing: &[u8]) -> Set
+    requires { ⌜ Row (now part)
+        × (length (now labels) ≡ countIn (now part))
+        × (length (now standing) ≡ countIn (now part)) ⌝ }
+    ensures { λ r. ⌜ Members (Enters (now (part .entry)) (Stands (now (labels .entry)) (now (standing .entry)) level)) r ⌝ }
 {
+    let n = labels.len();
     let mut set = Set::empty();
-    if level == 0 {
-        return set;
-    }
-    let end = range.to;
-    let mut i = range.from;
-    while i < end {
-        let w = byte(chart, 4 * i + 4 + 2);
+    let mut i: usize = 0;
+    while i < n {
+        let w = byte(part, 4 * i + 2);
         set = set.with_if(w, (byte(labels, i) == level) & (byte(standing, i) == 1));
         i += 1;
     }
     set
+}
+
+// What the standing entries of a level lead to that are in the range of a vertex; where there is none, nothing.
+fn entry_targets(chart: &[u8], labels: &[u8], level: usize, range: Span, standing: &[u8]) -> Set
+    requires { ⌜ Fits (now chart) (now labels) (now standing) × OneRange (now chart) range ⌝ }
+    ensures { λ r. ⌜ ((v : ℕ) → RangeOf (now (chart .entry)) v range → Members
+        (EntryTargets (now (chart .entry)) (now (labels .entry)) (now (standing .entry)) v level) r) ⌝ }
+{
+    if level == 0 {
+        return Set::empty();
+    }
+    let from = range.from;
+    let to = range.to;
+    labelled_in(
+        part_in(chart, range),
+        &labels[from..to],
+        level,
+        &standing[from..to],
+    )
 }
 
 // The first of L1, L2, L3 that the chart of a loop breaks, or 0, by what is found of it.

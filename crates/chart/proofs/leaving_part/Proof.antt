@@ -1,4 +1,3 @@
-use Rattle.chart.proofs.Order.{low-high}
 use borrow.Author.Needs.{needs}
 use Rattle.chart.proofs.leaving_part.Statement.{statement}
 use Rattle.chart.proofs.leaving_part.Tie as tie
@@ -7,7 +6,7 @@ range-of-requires : tie.Need-range-of-requires
 range-of-requires c κs = search needs
 
 part-in-requires : tie.Need-part-in-requires
-part-in-requires c κs = let R = c .range-of .ensures in (c .before .before .pre, low-high (R .begins) (R .ends), R .ends .within)
+part-in-requires c κs = (c .before .before .pre, (_, c .range-of .ensures))
 
 returns : tie.Need-returns
 returns c = c .part-in .ensures _ (c .before .range-of .ensures)

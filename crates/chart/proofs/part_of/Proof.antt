@@ -1,5 +1,4 @@
-use native.Mathlib.Omega.{arith}
-use Rattle.chart.proofs.Order.{begin-order, begin-high}
+use Rattle.chart.proofs.Order.{begins-range}
 use borrow.Author.Needs.{needs}
 use Rattle.chart.proofs.part_of.Statement.{statement}
 use Rattle.chart.proofs.part_of.Tie as tie
@@ -20,12 +19,12 @@ element-copy-out-t13 : tie.Need-element-copy-out-t13
 element-copy-out-t13 c = search needs
 
 part-in-requires : tie.Need-part-in-requires
-part-in-requires c κs = let p = c .before .before .before .pre in (p .0, begin-order (p .1) _ (p .2), begin-high (p .1) _ (p .2))
+part-in-requires c κs = let p = c .before .before .before .pre in (p .0, (_, begins-range (p .1) _ (p .2)))
 
 returns : tie.Need-returns
 returns c =
     let p = c .before .before .before .before .pre in
-    c .part-in .ensures _ (record { begins = p .1 .split _ (omega (arith, p .2)); ends = p .1 .split _ (omega (arith, p .2)) })
+    c .part-in .ensures _ (begins-range (p .1) _ (p .2))
 
 pub part-of-spec : {M : Type 1} → statement M
 part-of-spec =

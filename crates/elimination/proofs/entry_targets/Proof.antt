@@ -1,103 +1,72 @@
-use Prim.Native.Nat.{ℕ}
-use Rattle.chart.specs.Leaving.{RangeOf}
 use borrow.Author.Needs.{needs}
-use mathlib.Core.Path.{sym}
-use Prim.Native.Nat.{_-_, _≤_}
 use native.Mathlib.Omega.{arith}
-use Rattle.bits.specs.Sets.{Members}
-use Rattle.chart.specs.Bodies.{countOf}
-use Rattle.chart.specs.Steps.{Stands}
-use Rattle.chart.proofs.Order.{at-mid}
-use Rattle.chart.proofs.Rows.{ViaBelow, via-none, via-more, via-all, decides-stands, to-low}
-use Rattle.elimination.specs.RemovalAnswers.{Fits}
+use Rattle.bits.specs.Bits.{Bytes}
+use Rattle.chart.proofs.Checks.{passes}
+use Rattle.chart.proofs.Order.{low-high}
+use Rattle.chart.proofs.Rows.{looked-up, leaving-row, beside-long, beside-stands}
 use Rattle.elimination.proofs.Entries.{entry-all, no-entry}
 use Rattle.elimination.proofs.entry_targets.Statement.{statement}
 use Rattle.elimination.proofs.entry_targets.Tie as tie
 
-abbrev Inv-loop : tie.InvT-loop
-Inv-loop chart labels level standing set₀ end i₀ set i =
-    Fits chart labels standing × (end ≤ countOf chart) × (i₀ ≤ i)
-    × ((v : ℕ) → RangeOf chart v (record { from = i₀; to = end }) → Members (ViaBelow chart (Stands labels standing level) v i) set)
-
-abbrev μ-loop : tie.MeasureT-loop
-μ-loop chart labels level standing set₀ end i₀ set i = end - i
-
-empty-requires : tie.Need-empty-requires Inv-loop μ-loop
+empty-requires : tie.Need-empty-requires
 empty-requires c κs = search needs
 
-returns : tie.Need-returns Inv-loop μ-loop
-returns c = λ v R. no-entry (c .if1 .taken) (c .before .empty .ensures)
+returns : tie.Need-returns
+returns c = λ v R. no-entry (c .before .if1 .taken) (c .empty .ensures)
 
-loop-holds : tie.Need-loop-holds Inv-loop μ-loop
-loop-holds c =
-    let (F, e) = c .before .before .before .before .before .pre in
-    (F, e, omega arith, λ v R. via-none (R .begins) (c .before .empty .ensures))
+part-in-requires : tie.Need-part-in-requires
+part-in-requires c κs = let p = c .before .before .before .before .pre in (passes _ (p .0 .formed), p .1)
 
-mul-byte : tie.Need-mul-byte Inv-loop μ-loop
-mul-byte c = search needs
+sub-labelled-in : tie.Need-sub-labelled-in
+sub-labelled-in c = let (F, (v, R)) = c .before .before .before .before .before .pre in omega (arith, low-high (R .begins) (R .ends))
 
-add-byte : tie.Need-add-byte Inv-loop μ-loop
-add-byte c = search needs
+part-labelled-in-start : tie.Need-part-labelled-in-start
+part-labelled-in-start c = let (F, (v, R)) = c .before .before .before .before .before .pre in omega (arith, low-high (R .begins) (R .ends))
 
-add-byte-2 : tie.Need-add-byte-2 Inv-loop μ-loop
-add-byte-2 c = search needs
+part-labelled-in-end : tie.Need-part-labelled-in-end
+part-labelled-in-end c = let (F, (v, R)) = c .before .before .before .before .before .pre in omega (arith, R .ends .within, F .each)
 
-byte-requires : tie.Need-byte-requires Inv-loop μ-loop
-byte-requires c κs = let i = c .before .loop .inv in omega (arith, c .loop-test .taken, i .1, i .0 .formed .header .whole)
+sub-labelled-in-2 : tie.Need-sub-labelled-in-2
+sub-labelled-in-2 c = let (F, (v, R)) = c .before .before .before .before .before .before .pre in omega (arith, low-high (R .begins) (R .ends))
 
-byte-requires-2 : tie.Need-byte-requires-2 Inv-loop μ-loop
-byte-requires-2 c κs = let i = c .before .before .loop .inv in omega (arith, c .before .loop-test .taken, i .1, i .0 .each)
+part-labelled-in-start-2 : tie.Need-part-labelled-in-start-2
+part-labelled-in-start-2 c = let (F, (v, R)) = c .before .before .before .before .before .before .pre in omega (arith, low-high (R .begins) (R .ends))
 
-byte-requires-3 : tie.Need-byte-requires-3 Inv-loop μ-loop
-byte-requires-3 c κs = let i = c .before .before .before .loop .inv in omega
-    (arith, c .before .before .loop-test .taken, i .1, i .0 .marked .long)
+part-labelled-in-end-2 : tie.Need-part-labelled-in-end-2
+part-labelled-in-end-2 c = let (F, (v, R)) = c .before .before .before .before .before .before .pre in omega (arith, R .ends .within, F .marked .long)
 
-with-if-requires : tie.Need-with-if-requires Inv-loop μ-loop
-with-if-requires c κs =
-    let l = c .before .before .before .before .loop in
-    rw (c .before .before .byte .ensures .0)
-    (to-low (l .inv .0 .formed) (l .i) (omega (arith, c .before .before .before .loop-test .taken, l .inv .1)))
-
-add-i : tie.Need-add-i Inv-loop μ-loop
-add-i c = search needs
-
-loop-less : tie.Need-loop-less Inv-loop μ-loop
-loop-less c = search needs
-
-loop-again : tie.Need-loop-again Inv-loop μ-loop
-loop-again c =
-    let l = c .before .before .before .before .before .loop in
-    let i = l .inv in
-    let t = c .before .before .before .before .loop-test .taken in (
-      i .0,
-      i .1,
-      omega (arith, i .2),
-      λ v R. via-more (omega (arith, t, i .1)) (at-mid (R .begins) (R .ends) (l .i) (i .2) t)
-          (sym (c .before .before .before .byte .ensures .0))
-          (decides-stands _ (c .before .before .byte2 .ensures .0) (c .before .byte3 .ensures .0)) (c .with-if .ensures) (i .3 v R),
+labelled-in-requires : tie.Need-labelled-in-requires
+labelled-in-requires c κs =
+    let e = c .before .before .before .before .before .before in
+    let (F, (v, R)) = e .before .pre in
+    let B : Bytes (e .before .args .chart .now) = λ k. omega (arith, e .shared-slice-known .given k) in
+    let f = c .before .before .part-in .ensures v R in
+    let S = looked-up _ v B (passes _ (F .formed)) f in (
+      leaving-row _ v B (passes _ (F .formed)) f,
+      beside-long S R _ (omega (arith, F .each)),
+      beside-long S R _ (omega (arith, F .marked .long)),
     )
 
-returns-2 : tie.Need-returns-2 Inv-loop μ-loop
+returns-2 : tie.Need-returns-2
 returns-2 c =
-    λ v R. entry-all (omega (arith, c .before .before .if1 .left)) (via-all (R .ends) (c .loop-test .left) (c .before .loop .inv .3 v R))
+    let e = c .before .before .before .before .before .before .before in
+    let F = e .before .pre .0 in
+    let B : Bytes (e .before .args .chart .now) = λ k. omega (arith, e .shared-slice-known .given k) in
+    λ v R. entry-all (omega (arith, c .before .before .before .before .if1 .left))
+    (beside-stands (looked-up _ v B (passes _ (F .formed)) (c .before .before .before .part-in .ensures v R)) R (c .labelled-in .ensures))
 
 pub entry-targets-spec : {M : Type 1} → statement M
 entry-targets-spec =
     tie.close
     (tie.spec
-    Inv-loop
-    μ-loop
     empty-requires
     returns
-    loop-holds
-    mul-byte
-    add-byte
-    add-byte-2
-    byte-requires
-    byte-requires-2
-    byte-requires-3
-    with-if-requires
-    add-i
-    loop-less
-    loop-again
+    part-in-requires
+    sub-labelled-in
+    part-labelled-in-start
+    part-labelled-in-end
+    sub-labelled-in-2
+    part-labelled-in-start-2
+    part-labelled-in-end-2
+    labelled-in-requires
     returns-2)

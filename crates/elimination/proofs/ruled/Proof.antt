@@ -14,7 +14,7 @@ range-of-requires : tie.Need-range-of-requires
 range-of-requires c κs = passes _ (c .before .before .before .pre .formed)
 
 entry-targets-requires : tie.Need-entry-targets-requires
-entry-targets-requires c κs = (c .before .before .before .before .pre, c .range-of .ensures .ends .within)
+entry-targets-requires c κs = (c .before .before .before .before .pre, (_, c .range-of .ensures))
 
 is-empty-requires : tie.Need-is-empty-requires
 is-empty-requires c κs = search needs

@@ -75,7 +75,7 @@ range-by-requires : tie.Need-range-by-requires Inv-loop μ-loop
 range-by-requires c κs = let i = c .before .before .before .before .loop .inv in (passes _ (i .0 .formed), i .3)
 
 entry-targets-requires : tie.Need-entry-targets-requires Inv-loop μ-loop
-entry-targets-requires c κs = (c .before .before .before .before .before .loop .inv .0, c .range-by .ensures .ends .within)
+entry-targets-requires c κs = (c .before .before .before .before .before .loop .inv .0, (_, c .range-by .ensures))
 
 is-empty-requires : tie.Need-is-empty-requires Inv-loop μ-loop
 is-empty-requires c κs = search needs
