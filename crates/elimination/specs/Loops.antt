@@ -3,6 +3,8 @@ use Prim.Native.Nat.{ℕ, _<_}
 use mathlib.Core.Path.{_≡_}
 use mathlib.Core.Bool.{Bool, true, false}
 use mathlib.Core.List.{List}
+use mathlib.Core.Logic.{_≢_}
+use lib.ListN.{length, getD}
 use Rattle.theory.specs.Paths.{Edges}
 use Rattle.theory.specs.LoopCharts.{Reached, Stray}
 use Rattle.theory.specs.Removals.{Answer, Removes}
@@ -15,6 +17,12 @@ use Rattle.elimination.specs.RemovalAnswers.{Fits, OpeningAnswer}
 -- a standing entry of the loop (v, l) leads to w
 abbrev pub EntryTargets : (b labels standing : List ℕ) (v l w : ℕ) → Type 0
 EntryTargets b labels standing v l w = (0 < l) × StandingOf b labels standing v l w
+
+-- of bytes that stand beside labels, those whose label is l have become 0; all else is unchanged
+pub record Cleared (labels : List ℕ) (l : ℕ) (before after : List ℕ) : Type 0 where
+  pub long : length after ≡ length before
+  pub gone : (k : ℕ) → k < length labels → getD labels k 0 ≡ l → getD after k 0 ≡ 0
+  pub kept : (k : ℕ) → k < length labels → getD labels k 0 ≢ l → getD after k 0 ≡ getD before k 0
 
 -- r is the first of L1, L2, L3 that is broken, or 0: by what the entries reach, and by cycles aside of v
 pub data Broken (v : ℕ) (Entry : ℕ → Type 0) (Other : Edges) : ℕ → Type 0 where

@@ -35,7 +35,7 @@ ghost use Rattle.chart.specs.Standing.{TakenOut, TakenOutOf};
 ghost use Rattle.elimination.specs.Removals.{removalOf, leftOf};
 ghost use Rattle.elimination.specs.RemovalAnswers.{StandingFits, Fits};
 ghost use Rattle.elimination.specs.Together.{loopsOf, togetherOf, leftTogether};
-ghost use Rattle.elimination.specs.Loops.{EntryTargets, Ruled, Opened, isDone};
+ghost use Rattle.elimination.specs.Loops.{EntryTargets, Cleared, Ruled, Opened, isDone};
 ghost use Rattle.elimination.specs.Walks.{BrokenBy};
 ghost use Rattle.elimination.specs.LoopLists.{RulingOf, RuledTogether, isAllDone};
 
@@ -182,6 +182,19 @@ fn cleared(byte: u8, label: usize, level: usize) -> u8
     if label == level { 0 } else { byte }
 }
 
+// Of the standing bytes beside these labels, those with this label become 0.
+fn clear_in(labels: &[u8], level: usize, standing: &mut [u8])
+    requires { ⌜ length (now standing) ≡ length (now labels) ⌝ }
+    ensures { λ _. ⌜ Cleared (now (labels .entry)) level (now (standing .entry)) (now (standing .exit)) ⌝ }
+{
+    let n = labels.len();
+    let mut i: usize = 0;
+    while i < n {
+        standing[i] = cleared(standing[i], byte(labels, i), level);
+        i += 1;
+    }
+}
+
 // The standing bytes of the entries of the loop (v, level) become 0.
 fn clear(chart: &[u8], labels: &[u8], v: usize, level: usize, standing: &mut [u8])
     requires { ⌜ Fits (now chart) (now labels) (now standing) ⌝ }
@@ -189,12 +202,9 @@ fn clear(chart: &[u8], labels: &[u8], v: usize, level: usize, standing: &mut [u8
         (now (standing .entry)) (now (standing .exit)) ⌝ }
 {
     let range = range_of(chart, v);
-    let end = range.to;
-    let mut i = range.from;
-    while i < end {
-        standing[i] = cleared(standing[i], byte(labels, i), level);
-        i += 1;
-    }
+    let from = range.from;
+    let to = range.to;
+    clear_in(&labels[from..to], level, &mut standing[from..to]);
 }
 
 // Takes out the loop (vertex, level) of a chart with these labels, where the transitions whose byte is 1 stand: the
