@@ -57,9 +57,6 @@ formed-in B l = record { sixteen = l; bytes = B }
 pub bytes-back : {s : List ℕ} → length s ≡ stateSize → bytesIn (stateIn s) ≡ s
 bytes-back l = refl
 
-pub state-back : {f : Follower} → Formed f → stateIn (bytesIn f) ≡ f
-state-back F = refl
-
 -- THE TEST of 53 decides what 53 asks
 pub tests-set : (b : List ℕ) (f : Follower) → Decides (setTest b f) (SetPasses b f)
 unfolding setTest

@@ -8,7 +8,7 @@ use mathlib.Core.List.{List, map, List·Memᴰ, Memᴰ·of-map}
 use lib.ListN.{length}
 use Rattle.theory.specs.Events.{Call, restart, event, Word, Answer, answer, refused-53, eventRule}
 use Rattle.theory.specs.Runs.{run, runLeaves}
-use Rattle.theory.proofs.Followers.{one-answers, from-fresh}
+use Rattle.theory.proofs.Followers.{from-fresh}
 use Rattle.theory.proofs.Events.{never-refused}
 use Rattle.theory.proofs.Runs.{run-follows}
 use Rattle.report.specs.declared.Followed.{Followed}
@@ -109,11 +109,7 @@ module _ {b : List ℕ} (W : WellFormed b) where
       rw (lent-held b s restart l) (holding (F .formed), F)
 
 module _ {b : List ℕ} {cs : List Call} where
-  -- the answers are determined
-  pub one-by-rule : {ys zs : List Followed} → ByRule b cs ys → ByRule b cs zs → ys ≡ zs
-  one-by-rule R Z = R .written ∙ ap (map followedAs) (one-answers eventRule (systemOf b) (R .rule) (Z .rule)) ∙ sym (Z .written)
-
-  -- and none is a refusal
+  -- no answer is a refusal
   pub none-refused : {ys : List Followed} → ByRule b cs ys → (y : Followed) → List·Memᴰ y ys
       → (w : Word) × (end : Bool) × (offered : ℕ) × (y ≡ followedAs (answer w end offered))
   none-refused R y m =

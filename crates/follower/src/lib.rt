@@ -33,6 +33,9 @@ pub struct Follower {
     pub set: [u8; 16],
 }
 
+// How many bytes a state has.
+pub const STATE_SIZE: usize = 16;
+
 // What a call by value hands back: its answer, and the state after it.
 pub struct Moved {
     pub answer: Followed,
@@ -232,7 +235,7 @@ pub fn event_lent(chart: &[u8], state: &mut [u8], action: u8) -> Followed
     ensures { λ r. ⌜ (r ≡ lentOn (now (chart .entry)) (now (state .entry)) (event action) .0)
         × (now (state .exit) ≡ lentOn (now (chart .entry)) (now (state .entry)) (event action) .1) ⌝ }
 {
-    if state.len() != 16 {
+    if state.len() != STATE_SIZE {
         return other_length(chart);
     }
     let moved = event(state_of(state), chart, action);
@@ -245,7 +248,7 @@ pub fn restart_lent(chart: &[u8], state: &mut [u8]) -> Followed
     ensures { λ r. ⌜ (r ≡ lentOn (now (chart .entry)) (now (state .entry)) restart .0)
         × (now (state .exit) ≡ lentOn (now (chart .entry)) (now (state .entry)) restart .1) ⌝ }
 {
-    if state.len() != 16 {
+    if state.len() != STATE_SIZE {
         return other_length(chart);
     }
     let moved = restart_from(state_of(state), chart);
@@ -309,7 +312,7 @@ pub fn shortest_way(chart: &[u8], state: &[u8], out: &mut [u8]) -> Way
         }
         Stage::Passed => {}
     }
-    if state.len() != 16 {
+    if state.len() != STATE_SIZE {
         return Way::Refused(Place::FollowerSet);
     }
     let set = read_set(state, 0);
