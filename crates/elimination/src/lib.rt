@@ -51,7 +51,8 @@ fn labelled_in(part: &[u8], labels: &[u8], level: usize, standing: &[u8]) -> Set
     requires { ⌜ Row (now part)
         × (length (now labels) ≡ countIn (now part))
         × (length (now standing) ≡ countIn (now part)) ⌝ }
-    ensures { λ r. ⌜ Members (Enters (now (part .entry)) (Stands (now (labels .entry)) (now (standing .entry)) level)) r ⌝ }
+    ensures { λ r. ⌜ Members
+        (Enters (now (part .entry)) (Stands (now (labels .entry)) (now (standing .entry)) level)) r ⌝ }
 {
     let n = labels.len();
     let mut set = Set::empty();
