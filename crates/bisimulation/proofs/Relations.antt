@@ -129,7 +129,8 @@ indexed-member b u a w = (
 back-again : {A B : Type 0} → A ↔ B → B ↔ A
 back-again (f, g) = (g, f)
 
-pub indexed-chart : (e b : List ℕ) (R : ℕ → ℕ → Type 0) → Bisimulation (indexed (indexedOf e)) (indexed (indexedOf b)) R ↔ Bisimulation (systemOf e) (systemOf b) R
+pub indexed-chart : (e b : List ℕ) (R : ℕ → ℕ → Type 0)
+    → Bisimulation (indexed (indexedOf e)) (indexed (indexedOf b)) R ↔ Bisimulation (systemOf e) (systemOf b) R
 indexed-chart e b R = (
   same-steps (indexed-member e) (indexed-member b) (startOf e) (startOf b) R,
   same-steps (λ u a w. back-again (indexed-member e u a w)) (λ u a w. back-again (indexed-member b u a w)) (startOf e) (startOf b) R,

@@ -1,5 +1,6 @@
 -- The transitions that leave a vertex are one part of the body's bytes.
 use mathlib.Core.Path.{_≡_, refl, sym, ap, _∙_, subst}
+use mathlib.Core.Logic.{_≢_}
 use mathlib.Core.List.{List, [], _++_, append-assoc, append-nil}
 use Prim.Native.Nat.{ℕ, zero, suc, _+_, _-_, _*_, _≤_, _<_}
 use native.Mathlib.Nat.{add-zero, zero-add, add-suc, suc-add}
@@ -20,7 +21,7 @@ use Rattle.bits.proofs.Determined.{split-one}
 use Rattle.chart.specs.Checks.{checkOf}
 use Rattle.chart.specs.Leaving.{leavingAt, leavingOf, FromBelow, RangeOf, OneRange}
 use Rattle.chart.specs.Parts.{PartOf}
-use Rattle.chart.proofs.Checks.{well-formed}
+use Rattle.chart.proofs.Checks.{well-formed, passes}
 use Rattle.chart.proofs.Order.{first-above, low-high, at-low, at-mid, at-high}
 
 -- transitions of other vertices give nothing
@@ -84,16 +85,21 @@ pub leaving-range : {b : List ℕ} {v : ℕ} {r : Span} → checkOf b ≡ Passed
     → take (4 * r .to + 4 - (4 * r .from + 4)) (drop (4 * r .from + 4) b) ≡ leavingOf b v
 leaving-range {b} {v} {r} e R = leaving-part b (countOf b) v (r .from) (r .to) (R .begins) (R .ends) ∙ sym (leaving-passed b v e)
 
+-- EMPTY where 20 or 21 refuses the body
 pub leaving-refused : (b : List ℕ) (v : ℕ) {p : _} → checkOf b ≡ Refused p → leavingOf b v ≡ []
 unfolding leavingOf
 leaving-refused b v e = rw e
 
--- no transition leaves a number of V or above
-pub leaving-high : (b : List ℕ) (v : ℕ) → WellFormed b → verticesOf b ≤ v → leavingAt b v 0 (countOf b) ≡ []
-leaving-high b v W h = none-leave b v 0 (countOf b) (λ k l m e. omega (arith, W .each k (omega arith) .from-high))
+-- so is the part of a vertex that no transition leaves, and of a number of V or above
+pub leaving-none : (b : List ℕ) (v : ℕ) → WellFormed b → ((i : ℕ) → i < countOf b → fromOf b i ≢ v) → leavingOf b v ≡ []
+leaving-none b v W n = leaving-passed b v (passes b W) ∙ none-leave b v 0 (countOf b) (λ k l m e. n k (omega arith) e)
+
+pub leaving-high : (b : List ℕ) (v : ℕ) → WellFormed b → verticesOf b ≤ v → leavingOf b v ≡ []
+leaving-high b v W h = leaving-none b v W (λ i l e. omega (arith, W .each i l .from-high))
 
 -- what stands between two splits, by index
-module _ {b : List ℕ} {v lo hi : ℕ} (W : WellFormed b) (L : Split (FromBelow b v) (countOf b) lo) (H : Split (FromBelow b (v + 1)) (countOf b) hi) where
+module _ {b : List ℕ} {v lo hi : ℕ} (W : WellFormed b) (L : Split (FromBelow b v) (countOf b) lo)
+    (H : Split (FromBelow b (v + 1)) (countOf b) hi) where
   part-between : {part : List ℕ} → part ≡ take (4 * hi + 4 - (4 * lo + 4)) (drop (4 * lo + 4) b) → PartOf b v part
   part-between {part} e =
       let n = 4 * hi + 4 - (4 * lo + 4) in

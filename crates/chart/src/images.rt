@@ -1,6 +1,7 @@
 // Where an action leads from a set of vertices, which actions the set offers, the lowest that leads into another set,
 // and where a vertex leads. The loops go over a vertex's part of the body. Where they go by index, its number of
-// transitions goes beside the part: the compiler does not see that the length is four times that.
+// transitions goes beside the part, since the compiler does not see that the length is four times that: made of the
+// length it took the row `longest` of the shortest way 3.4 in 100 more instructions.
 use crate::many_of;
 use crate::part_of;
 use bits::Set;

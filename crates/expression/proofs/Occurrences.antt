@@ -11,7 +11,7 @@ use Rattle.theory.proofs.Climbs.{first-iff, climb-iff}
 use Rattle.expression.specs.Table.{node, count, lowestFailing, malformed, misused, checkOf}
 use Rattle.expression.proofs.Table.{passed→well-formed, tree}
 
-abbrev twice : List ℕ
+abbrev pub twice : List ℕ
 twice = 1 ∷ 1 ∷ 0 ∷ 0 ∷ 1 ∷ 2 ∷ 0 ∷ 0 ∷ 3 ∷ 0 ∷ 0 ∷ 1
     ∷ 1 ∷ 1 ∷ 0 ∷ 0 ∷ 1 ∷ 2 ∷ 0 ∷ 0 ∷ 3 ∷ 0 ∷ 3 ∷ 4 ∷ 2 ∷ 0 ∷ 2 ∷ 5 ∷ []
 

@@ -116,7 +116,7 @@ module _ (b : List ℕ) (W : WellFormed b) (B : Bytes b) where
       ∙ sym (ap followedAs (told-same S (T .counts .exactly) (T .holds-end) w))
 
   -- AN EVENT on a state whose set has a member
-  module _ (f : Follower) (a : ℕ) {set : Set} (S : Same set (membersOf f)) (fits : VerticesFit b set) where
+  module _ (f : Follower) (a : ℕ) {set : Set} (S : Same set (membersOf f)) (fits : VerticesFit (verticesOf b) set) where
     has-some : nonempty (membersOf f) ≡ true
     has-some = at (membersOf f) (λ v h. S v .0 h)
       where
@@ -180,10 +180,10 @@ module _ (b : List ℕ) (W : WellFormed b) (B : Bytes b) where
 
 -- 53
 module _ {set : Set} where
-  pub fits-empty : {n : ℕ} → Empty set → (false ≡ true) ↔ ((¬ Empty set) × ((w : ℕ) → Has set w → w < n))
+  pub fits-empty : {n : ℕ} → Empty set → (false ≡ true) ↔ VerticesFit n set
   fits-empty e = ((λ f. absurd (true≢false (sym f))), (λ (s, g). absurd (s e)))
 
-  pub fits-highest : {h n : ℕ} → Last set h → (ltb h n ≡ true) ↔ ((¬ Empty set) × ((w : ℕ) → Has set w → w < n))
+  pub fits-highest : {h n : ℕ} → Last set h → (ltb h n ≡ true) ↔ VerticesFit n set
   fits-highest {h} {n} L = (
     (λ e. let l = decides-ltb h n .0 e in (
       (λ s. s h (L .has)),
@@ -194,16 +194,16 @@ module _ {set : Set} where
   )
 
 -- what the code asks of the set is 53
-pub fits-passes : (b : List ℕ) (f : Follower) {set : Set} → Same set (membersOf f) → SetPasses b f ↔ VerticesFit b set
+pub fits-passes : (b : List ℕ) (f : Follower) {set : Set} → Same set (membersOf f) → SetPasses b f ↔ VerticesFit (verticesOf b) set
 fits-passes b f {set} S = (to, from)
   where
     in-set : (v : ℕ) → InState f v ↔ Has set v
     in-set v = Iff·trans (Iff·symm (members-are f v)) (Iff·symm (S v))
 
-    to : SetPasses b f → VerticesFit b set
+    to : SetPasses b f → VerticesFit (verticesOf b) set
     to p = ((λ e. e _ (in-set _ .0 (p .some .1))), λ w h. p .below w (in-set w .1 h))
 
-    from : VerticesFit b set → SetPasses b f
+    from : VerticesFit (verticesOf b) set → SetPasses b f
     from (n, g) = record {
       some = ⊎-elim (λ (x, l, h). (x, in-set x .1 h)) (λ k. absurd (n (λ w h. k w (h .below) h))) (look-below (has? set) 128);
       below = λ w i. g w (in-set w .0 i);
@@ -211,7 +211,7 @@ fits-passes b f {set} S = (to, from)
 
 -- the stage that the code answers
 abbrev pub Readied : List ℕ → Set → Stage → Type 0
-Readied b set r = (VerticesFit b set → r ≡ stage.Passed) × (¬ VerticesFit b set → r ≡ stage.Refused place.FollowerSet)
+Readied b set r = (VerticesFit (verticesOf b) set → r ≡ stage.Passed) × (¬ VerticesFit (verticesOf b) set → r ≡ stage.Refused place.FollowerSet)
 
 module _ (b : List ℕ) (f : Follower) {set : Set} {r : Stage} (S : Same set (membersOf f)) (R : Readied b set r) where
   pub ready-stage : r ≡ stateStage b f
@@ -219,7 +219,7 @@ module _ (b : List ℕ) (f : Follower) {set : Set} {r : Stage} (S : Same set (me
       (λ p. R .0 (fits-passes b f S .0 p) ∙ sym (state-ready p))
       (λ n. R .1 (λ p. n (fits-passes b f S .1 p)) ∙ sym (state-unready n))
 
-  pub ready-fits : r ≡ stage.Passed → VerticesFit b set
+  pub ready-fits : r ≡ stage.Passed → VerticesFit (verticesOf b) set
   ready-fits e = by-cases (decided (tests-set b f))
       (λ p. fits-passes b f S .0 p)
       (λ n. let q : stage.Refused place.FollowerSet ≡ stage.Passed = sym (R .1 (λ p. n (fits-passes b f S .1 p))) ∙ e in

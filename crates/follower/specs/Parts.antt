@@ -10,7 +10,6 @@ use Rattle.report.specs.declared.Followed.{Followed}
 use Rattle.report.specs.declared.Followed.the-variants.{Taken, NotPossible}
 use Rattle.bits.specs.declared.sets.Set.{Set}
 use Rattle.bits.specs.Sets.{Has, Empty, Members}
-use Rattle.chart.specs.Bodies.{verticesOf}
 use Rattle.chart.specs.Images.{Image, Offers, Marks, markedOf}
 use Rattle.follower.specs.declared.Stepped.{Stepped}
 
@@ -18,9 +17,9 @@ use Rattle.follower.specs.declared.Stepped.{Stepped}
 abbrev pub Same : Set → List ℕ → Type 0
 Same set xs = (v : ℕ) → Has set v ↔ List·Memᴰ v xs
 
--- what 53 asks of a set
-abbrev pub VerticesFit : List ℕ → Set → Type 0
-VerticesFit b set = (¬ Empty set) × ((w : ℕ) → Has set w → w < verticesOf b)
+-- what 53 asks of a set, for so many vertices
+abbrev pub VerticesFit : ℕ → Set → Type 0
+VerticesFit vertices set = (¬ Empty set) × ((w : ℕ) → Has set w → w < vertices)
 
 -- THE STEP from a set by an action: it is taken where the action has a target, and then the set has all of them; else it stays
 pub record StepBy (b : List ℕ) (set : Set) (a : ℕ) (r : Stepped) : Type 0 where

@@ -17,10 +17,9 @@ use ways::way_from;
 ghost use mathlib.Core.Path.{_≡_};
 ghost use mathlib.Core.Bool.{true};
 ghost use mathlib.Core.Logic.{_↔_};
-ghost use Prim.Native.Nat.{ℕ, _<_};
 ghost use lib.ListN.{length};
 ghost use Rattle.theory.specs.Events.{restart, event};
-ghost use Rattle.bits.specs.Sets.{Has, Empty};
+ghost use Rattle.chart.specs.Bodies.{verticesOf};
 ghost use Rattle.chart.specs.Checks.{checkOf};
 ghost use Rattle.chart.specs.Leaving.{Begins};
 ghost use Rattle.follower.specs.States.{stateSize, bytesIn, stateIn, membersOf, noState};
@@ -43,14 +42,14 @@ pub struct Moved {
 }
 
 // What an event makes of a set: whether it is taken, and the set after it.
-pub struct Stepped {
-    pub taken: bool,
-    pub set: Set,
+struct Stepped {
+    taken: bool,
+    set: Set,
 }
 
 // Whether 53 passes: some vertex is in the set, and none of V or above.
 fn set_fits(set: Set, vertices: usize) -> bool
-    ensures { λ r. ⌜ (r ≡ true) ↔ ((¬ Empty set) × ((w : ℕ) → Has set w → w < vertices)) ⌝ }
+    ensures { λ r. ⌜ (r ≡ true) ↔ VerticesFit vertices set ⌝ }
 {
     if set.is_empty() {
         return false;
@@ -62,8 +61,8 @@ fn set_fits(set: Set, vertices: usize) -> bool
 // 53 of a set.
 fn ready(chart: &[u8], set: Set) -> Stage
     requires { ⌜ checkOf (now chart) ≡ Stage.Passed ⌝ }
-    ensures { λ r. ⌜ (VerticesFit (now (chart .entry)) set → r ≡ Stage.Passed)
-        × (¬ VerticesFit (now (chart .entry)) set → r ≡ Stage.Refused Place.FollowerSet) ⌝ }
+    ensures { λ r. ⌜ (VerticesFit (verticesOf (now (chart .entry))) set → r ≡ Stage.Passed)
+        × (¬ VerticesFit (verticesOf (now (chart .entry))) set → r ≡ Stage.Refused Place.FollowerSet) ⌝ }
 {
     if set_fits(set, byte(chart, 0)) {
         return Stage::Passed;
@@ -113,7 +112,7 @@ fn told(chart: &[u8], begins: &[usize; 129], step: Stepped) -> Followed
 fn event_from(chart: &[u8], follower: Follower, set: Set, action: u8) -> Moved
     requires { ⌜ (checkOf (now chart) ≡ Stage.Passed)
         × Same set (membersOf follower)
-        × VerticesFit (now chart) set ⌝ }
+        × VerticesFit (verticesOf (now chart)) set ⌝ }
     ensures { λ r. ⌜ r ≡ ruledOf (now (chart .entry)) follower (event action) ⌝ }
 {
     let begins = chart::begins(chart);

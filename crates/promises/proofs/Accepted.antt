@@ -32,7 +32,9 @@ use Rattle.chart.specs.Systems.{systemOf}
 use Rattle.promises.specs.Accepted.{expressionSystem, Holds}
 
 -- the written body's chart is the expression's
-same-chart : (s b relation : List ℕ) → Bisimulation (systemOf (bodyOf s)) (systemOf b) (Related relation) ↔ Bisimulation (expressionSystem s) (systemOf b) (Related relation)
+same-chart : (s b relation : List ℕ)
+    → Bisimulation (systemOf (bodyOf s)) (systemOf b) (Related relation)
+    ↔ Bisimulation (expressionSystem s) (systemOf b) (Related relation)
 same-chart s b relation = ((λ h. rw (body-start s, body-transitions s) at h), (λ h. rw (body-start s, body-transitions s) h))
 
 -- a part of a list of bytes is one

@@ -16,10 +16,11 @@ use Rattle.expression.specs.Table as nodes
 use Rattle.expression.specs.Body.{bodyOf, chartTransitions}
 use Rattle.expression.specs.Charts.{IsChart}
 use Rattle.expression.proofs.Table.{passed→well-formed, tree}
+use Rattle.expression.proofs.Occurrences.{twice, not-to-the-other}
 use Rattle.expression.proofs.Chart.{body-vertices, body-start, body-transitions, passed-chart, length-says}
 use Rattle.witness.proofs.Labellings.{labelled-iff-witness}
 use Rattle.bisimulation.proofs.Relations.{relation-iff-bisimulation}
-use Rattle.promises.specs.Demand2.{ExactSteps, WritesTheChart, LabellingPasses, RelationPasses}
+use Rattle.promises.specs.Demand2.{HasTransition, ExactSteps, WritesTheChart, LabellingPasses, RelationPasses}
 
 module _ (s : List ℕ) (passed : nodes.checkOf s ≡ stage.Passed) where
   chart-of : IsChart s (chartTransitions s)
@@ -51,6 +52,11 @@ module _ (s : List ℕ) (passed : nodes.checkOf s ≡ stage.Passed) where
     ascend = rw body-transitions (chart-of .ascend);
     start = λ k e. (body-start s ∙ e, residual-of-start (nodes.node s) (nodes.count s) (tree s (passed→well-formed s passed)) k e);
   }
+
+-- no chart of (1·2)+(1·2) has the first 1 lead to the second 2
+pub occurrences-apart : (body : List ℕ) → HasTransition body 1 1 5 → ¬ ExactSteps twice body
+unfolding nodes.count
+occurrences-apart body m E = not-to-the-other (E .climbs 0 (omega arith) 1 5 .1 m)
 
 -- the expression's chart is written with exactly the steps that the rules derive
 pub writes-the-chart : (s lent : List ℕ) → WritesTheChart s lent

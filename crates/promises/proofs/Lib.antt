@@ -7,6 +7,7 @@ pub mod Removal
 pub mod Follower
 pub mod ShortestWay
 pub mod LoopsTogether
+pub mod VertexTransitions
 pub mod Accepted
 pub mod Demand2
 pub mod Demand3

@@ -6,6 +6,8 @@ use Rattle.promises.proofs.Check.{check-numbers}
 use Rattle.promises.proofs.ExpressionChart.{chart-numbers}
 use Rattle.promises.proofs.Removal.{removal-numbers}
 use Rattle.promises.proofs.Follower.{lent-numbers, call-numbers, restart-numbers}
+use Rattle.report.proofs.NumberLaws.{one-verdict, one-written, one-removed, one-together, one-followed, one-way}
+use Rattle.promises.proofs.VertexTransitions.{handed-back}
 use Rattle.promises.proofs.ShortestWay.{way-numbers, of-shortest-ways}
 use Rattle.promises.proofs.LoopsTogether.{together-numbers, in-every-order, empty-done, over-accepted}
 use Rattle.promises.proofs.Demand2.{writes-the-chart, labelling-passes, relation-passes}
@@ -19,6 +21,8 @@ promises = record {
   on-lent-bytes = lent-numbers;
   on-a-state = call-numbers;
   restart-by-value = restart-numbers;
+  numbers-tell = (one-verdict, one-written, one-removed, one-together, one-followed, one-way);
+  vertex-transitions = handed-back;
   accepted = accepted-iff-holds;
   writes-the-chart = writes-the-chart;
   labelling-passes = λ b labels W bytes. labelling-passes b labels (passes b W) bytes;

@@ -10,6 +10,10 @@ pub record Numbered {X : Type 0} (numbers : X → Numbers) (Answer : X → Type 
   pub meant : Answer answer
   pub numbered : numbers answer ≡ k
 
+-- the numbers tell the answer: no two have the same
+abbrev pub Telling : {X : Type 0} → (X → Numbers) → Type 0
+Telling {X} numbers = (x y : X) → numbers x ≡ numbers y → x ≡ y
+
 module _ {X L : Type 0} (numbers : X → Numbers) where
   -- the answer c has the numbers k, and what is left is t
   abbrev pub Gives : (c : X) (left : L) → Numbers → (t : L) → Type 0

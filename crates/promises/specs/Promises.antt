@@ -9,7 +9,8 @@ use Rattle.theory.specs.Charts.{Loop}
 use Rattle.theory.specs.Standing.{Loops}
 use Rattle.theory.specs.Events.{Call, restart}
 use Rattle.report.specs.declared.Verdict.the-variants.{Accepted}
-use Rattle.report.specs.Numbers.{four, verdictNumbers, togetherNumbers}
+use Rattle.report.specs.Numbers.{four, verdictNumbers, writtenNumbers, removedNumbers, togetherNumbers, followedNumbers}
+use Rattle.report.specs.Numbers.{wayNumbers}
 use Rattle.bits.specs.Bits.{Bytes}
 use Rattle.chart.specs.Bodies.{WellFormed}
 use Rattle.chart.specs.Standing.{StandsFor}
@@ -19,11 +20,13 @@ use Rattle.follower.specs.declared.Follower.{Follower}
 use Rattle.follower.specs.States.{Formed, noState}
 use Rattle.follower.specs.WayAnswers.{StatePasses}
 use Rattle.verdict.specs.Verdicts.{chartIn, labelsIn, verdictOf}
+use Rattle.promises.specs.Numbered.{Telling}
 use Rattle.promises.specs.Accepted.{Holds}
 use Rattle.promises.specs.Check.{stepsIn, Sentence}
 use Rattle.promises.specs.ExpressionChart.{ChartByNumbers}
 use Rattle.promises.specs.Removal.{RemovalByNumbers}
 use Rattle.promises.specs.Follower.{CallByNumbers, LentByNumbers}
+use Rattle.promises.specs.VertexTransitions.{HandedBack}
 use Rattle.promises.specs.ShortestWay.{WayByNumbers, OfShortestWays}
 use Rattle.promises.specs.LoopsTogether.{TogetherByNumbers, InEveryOrder, EmptyDone, OverAccepted}
 use Rattle.promises.specs.Demand2.{WritesTheChart, LabellingPasses, RelationPasses}
@@ -42,6 +45,11 @@ pub record Promises : Type 1 where
   pub on-lent-bytes : (b s : List ℕ) → Bytes s → (c : Call) → LentByNumbers b s c
   pub on-a-state : (b : List ℕ) (f : Follower) → Formed f → (c : Call) → CallByNumbers b f c
   pub restart-by-value : (b : List ℕ) → CallByNumbers b noState restart
+  -- of each call no two answers have the same four numbers
+  pub numbers-tell : Telling verdictNumbers × Telling writtenNumbers × Telling removedNumbers × Telling togetherNumbers
+      × Telling followedNumbers × Telling wayNumbers
+  -- the transitions of a vertex, as a part of the caller's chart bytes
+  pub vertex-transitions : (b : List ℕ) → Bytes b → (v : ℕ) → HandedBack b v
   -- DEMAND 2: which files are accepted, and with which counts
   pub accepted : (f : List ℕ) → Bytes f → (v t l : ℕ) → (verdictOf f ≡ Accepted v t l) ↔ Holds f v t l
   -- an expression's chart has exactly the steps that the published rules derive
