@@ -25,6 +25,10 @@ pub mod Relations
 pub mod Followers
 pub mod Events
 pub mod Ways
+-- an expression for a chart with its labelling, and its table of nodes
+pub mod LabelledCharts
+pub mod Texts
+pub mod PostOrders
 -- THE TESTS, which run: each decides or lists what one of the above means, by a law
 pub mod Tests
 pub mod Reachability
@@ -34,5 +38,8 @@ pub mod RemovalTests
 pub mod Derivatives
 pub mod Runs
 pub mod WayTests
+pub mod TextTests
 -- WHAT ONLY SERVES PROOFS
 pub mod Recursions
+pub mod Forests
+pub mod Remains
