@@ -87,3 +87,7 @@ pub mod FollowerCases
 pub mod Ways
 -- the same as tests that run: ends-in-tested, lowest-list, shortest-list
 pub mod WayTests
+-- AN EXPRESSION FOR A CHART
+-- what is written is the text, written-sound, and a text is written where the budget reaches its size, written-complete; so there is
+-- one text, one-text, and one sum, one-sum; with at most n nodes it is found exactly if it has no more, fitting-iff, fitting-none
+pub mod TextTests
