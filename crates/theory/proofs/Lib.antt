@@ -91,3 +91,8 @@ pub mod WayTests
 -- what is written is the text, written-sound, and a text is written where the budget reaches its size, written-complete; so there is
 -- one text, one-text, and one sum, one-sum; with at most n nodes it is found exactly if it has no more, fitting-iff, fitting-none
 pub mod TextTests
+-- a table grown node by node is a forest, grown-forest, and with one root a tree, grown-tree
+pub mod Forests
+-- a table in post-order is a tree, post-tree, and its root has the expression, post-expr; what is numbered is one, numbered-post, and
+-- the only one, post-numbered; as many nodes as the expression has, post-size
+pub mod PostOrders
