@@ -4,13 +4,13 @@ use mathlib.Core.Logic.{_≢_, _⊎_, inl, inr, _↔_}
 use Prim.Native.Nat.{ℕ, zero, suc, _<_}
 use native.Mathlib.Omega.{arith}
 use Rattle.theory.specs.Paths.{Star, here, step, Plus, last, more, Endless, Returns}
-use Rattle.theory.specs.Charts.{Steps, Formed, Any, Branch, Loop}
+use Rattle.theory.specs.Charts.{Steps, SameSteps, Formed, Any, Branch, Loop}
 use Rattle.theory.specs.LoopCharts.{InLoop, entry, other, LoopChart}
 use Rattle.theory.specs.Witnesses.{Witness, Connected}
 use Rattle.theory.specs.Checks.{Passed, LoopPasses}
-use Rattle.theory.proofs.Paths.{plus-star, star-cases, plus-map, endless-step, endless-step-at, endless-from, endless-cast, cycle-endless, return-cycle}
+use Rattle.theory.proofs.Paths.{plus-star, star-cases, star-map, plus-map, endless-step, endless-step-at, endless-from, endless-cast, cycle-endless, return-cycle}
 use Rattle.theory.proofs.Cycles.{endless-iff, L2-iff}
-use Rattle.theory.proofs.Rounds.{off-start, round-below}
+use Rattle.theory.proofs.Rounds.{off-start, round-below, round-map}
 
 module _ {size : ℕ} {S : Steps} (formed : Formed size S) where
   pub loop-to : (v l u w : ℕ) → InLoop S v l u w → w < size
@@ -67,3 +67,23 @@ module _ {size : ℕ} {S : Steps} (formed : Formed size S) where
 
   pub passed-iff-witness : (start : ℕ) → Connected size S start → Passed S ↔ Witness S start
   passed-iff-witness start reach = (passed-witness start, witness-passed start reach)
+
+-- the checks go by which transitions there are, however that is stated
+module _ {R S : Steps} (same : SameSteps R S) where
+  from-loop : (v l u w : ℕ) → InLoop S v l u w → InLoop R v l u w
+  from-loop v l = round-map (λ w e. same v l w .1 e) (λ u w e. same u 0 w .1 e)
+
+  from-entries : (v l : ℕ) → Loop S v l → Loop R v l
+  from-entries v l (b, w, e) = (b, w, same v l w .1 e)
+
+  pub passed-same : Passed R → Passed S
+  passed-same c = record {
+    c32 = λ w p. c .c32 w (plus-map (λ u x e. same u 0 x .1 e) p);
+    loops = λ v l o.
+        let k = c .loops v l (from-entries v l o) in
+        record {
+          c33 = plus-map (round-map (λ w e. same v l w .0 e) (λ u w e. same u 0 w .0 e)) (k .c33);
+          c34 = λ p. k .c34 (plus-map (from-loop v l) p);
+          c35 = λ w h p m n. k .c35 w h (star-map (from-loop v l) p) m (from-entries w m n);
+        };
+  }

@@ -1,11 +1,11 @@
 -- Over finitely many vertices, infinite paths are facts about cycles.
 use mathlib.Core.Path.{_≡_}
 use mathlib.Core.Logic.{_≢_, _⊎_, inl, inr, _↔_}
-use Prim.Native.Nat.{ℕ, suc, _<_}
+use Prim.Native.Nat.{ℕ, zero, suc, _+_, _<_}
 use native.Mathlib.Omega.{arith}
 use native.Mathlib.Decide.{ℕ-discrete}
 use Rattle.theory.specs.Paths.{Edges, Star, Plus, last, more, Endless, Returns, Avoid, Straying}
-use Rattle.theory.proofs.Paths.{star-plus, not-avoid, cycle-endless, endless-star, endless-reach, stretch, last-visit, stray-endless, return-cycle}
+use Rattle.theory.proofs.Paths.{star-plus, plus-snoc, not-avoid, cycle-endless, endless-star, endless-reach, stretch, last-visit, stray-endless, return-cycle}
 use Rattle.theory.proofs.Search.{look-below, pigeonhole}
 
 module _ {E : Edges} (size : ℕ) (bounded : (u w : ℕ) → E u w → w < size) where
@@ -54,3 +54,35 @@ module _ {E : Edges} (size : ℕ) (bounded : (u w : ℕ) → E u w → w < size)
     (λ back s. stray-not-back s back),
     (λ none p. elim (back-or-stray p) [ inl r ↦ r | inr s ↦ absurd (none s) ]),
   )
+
+-- WITHOUT A CYCLE: a law that holds of a vertex if it holds of all that its transitions lead to
+turned : {E : Edges} {u w : ℕ} → Plus (λ x y. E y x) u w → Plus E w u
+turned (last e) = last e
+turned (more e p) = plus-snoc (turned p) e
+
+-- x in front of a walk
+abbrev front : ℕ → (ℕ → ℕ) → ℕ → ℕ
+front x g zero = x
+front x g (suc i) = g i
+
+module _ {E : Edges} (size : ℕ) (bounded : (u w : ℕ) → E u w → w < size) (none : (w : ℕ) → ¬ Plus E w w) where
+  -- g 0, g 1, .. is a walk back along k transitions
+  abbrev Walk : ℕ → (ℕ → ℕ) → Type 0
+  Walk k g = (i : ℕ) → i < k → E (g (suc i)) (g i)
+
+  no-long-walk : (k : ℕ) (g : ℕ → ℕ) → Walk k g → ¬ (size < k)
+  no-long-walk k g h l =
+      let (i, j, a, b, e) = pigeonhole size g (λ i m. bounded _ _ (h i (omega arith))) in
+      none (g j) (turned (rw e at (stretch {E = λ x y. E y x} g i j a (λ m p q. h m (omega arith)))))
+
+  longer : (k : ℕ) (g : ℕ → ℕ) (x : ℕ) → E (g 0) x → Walk k g → Walk (suc k) (front x g)
+  longer k g x e h zero l = e
+  longer k g x e h (suc i) l = h i (omega arith)
+
+  module _ (P : ℕ → Type 0) (at-vertex : (w : ℕ) → ((x : ℕ) → E w x → P x) → P w) where
+    along : (f k : ℕ) (g : ℕ → ℕ) → Walk k g → size < f + k → P (g 0)
+    along zero k g h l = absurd (no-long-walk k g h (omega arith))
+    along (suc f) k g h l = at-vertex (g 0) (λ x e. along f (suc k) (front x g) (longer k g x e h) (omega arith))
+
+    pub each-vertex : (w : ℕ) → P w
+    each-vertex w = along (suc size) 0 (λ i. w) (λ i l. absurd (omega arith)) (omega arith)

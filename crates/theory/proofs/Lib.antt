@@ -12,14 +12,16 @@ pub mod Tests
 pub mod Pairs
 -- reachability as a test that runs: decides-reaches, decides-plus
 pub mod Reachability
--- within finitely many vertices a path is infinite exactly where a cycle is reached: endless-iff
+-- within finitely many vertices a path is infinite exactly where a cycle is reached: endless-iff; without cycles, induction along
+-- the transitions: each-vertex
 pub mod Cycles
 -- LOOP CHARTS, AND THE CHECKS OF A LABELLING
 -- L1, L2, L3 and the body by reachability and cycles, for any chart: round-L1, round-L2, round-L3, body-iff. Of two charts that
 -- agree on what v reaches, where one is a loop chart so is the other, loop-chart-agree; what v reaches in the other it reaches
 -- in the one, reach
 pub mod Rounds
--- 32 to 35 pass exactly where the labelling is a witness, on a connected chart: passed-iff-witness
+-- 32 to 35 pass exactly where the labelling is a witness, on a connected chart: passed-iff-witness; they go by which
+-- transitions there are: passed-same
 pub mod Checks
 -- with 31 too: passes-iff-witness; there is one outcome: one-outcome
 pub mod Outcomes
@@ -91,6 +93,9 @@ pub mod WayTests
 -- what is written is the text, written-sound, and a text is written where the budget reaches its size, written-complete; so there is
 -- one text, one-text, and one sum, one-sum; with at most n nodes it is found exactly if it has no more, fitting-iff, fitting-none
 pub mod TextTests
+-- where 32 to 35 pass every vertex but the end has a text, has-text, and inside a loop an inner text, has-inner-text; its actions are
+-- the chart's, text-acting
+pub mod Texts
 -- a table grown node by node is a forest, grown-forest, and with one root a tree, grown-tree
 pub mod Forests
 -- a table in post-order is a tree, post-tree, and its root has the expression, post-expr; what is numbered is one, numbered-post, and
