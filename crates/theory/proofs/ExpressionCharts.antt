@@ -2,36 +2,20 @@
 use Prim.Native.Nat.{ℕ, zero, suc, _<_}
 use mathlib.Core.Path.{_≡_, refl, ap, ap₂, sym, _∙_, subst}
 use mathlib.Core.Logic.{⊎-elim}
-use mathlib.Core.List.{List, [], _∷_, _++_, map, map-append, map-map, map-id, foldl, List·Memᴰ, List·Memᴰ·not-nil, List·Memᴰ·append-cases, Memᴰ·cast, Memᴰ·append-left, Memᴰ·append-right, Memᴰ·map, Memᴰ·of-map}
+use mathlib.Core.List.{List, [], _∷_, _++_, map, map-append, map-map, List·Memᴰ, List·Memᴰ·not-nil, List·Memᴰ·append-cases, Memᴰ·cast, Memᴰ·append-left, Memᴰ·append-right, Memᴰ·map, Memᴰ·of-map}
 use native.Mathlib.Nat.{eq-or-lt-of-le, le-of-suc-le-suc}
 use native.Mathlib.Omega.{arith}
-use Rattle.theory.specs.Expressions.{Expr, product, star, Target, end, to, Step}
-use Rattle.theory.specs.Derivatives.{Move, onto, moved, derivatives}
+use Rattle.theory.specs.Expressions.{star, Target, end, to, Step}
+use Rattle.theory.specs.Derivatives.{moved, derivatives}
 use Rattle.theory.specs.Nodes.{Op, op-sum, op-product, op-star, Node, bad, dead, leaf, bin, expr, first, aboveLeft, follow, after, remainders, residual, meaning, Tree}
 use Rattle.theory.specs.Ascending.{Ascending}
 use Rattle.theory.specs.Transitions.{Transition, precedes}
 use Rattle.theory.specs.ExpressionCharts.{vertexOf, edge, edges, meant, leaving, collect, transitions}
 use Rattle.theory.proofs.Ascending.{sort-ascends, sort→, sort←, precedes-order}
 use Rattle.theory.proofs.Derivatives.{derivatives-sound, derivatives-complete}
+use Rattle.theory.proofs.Contexts.{plug, plugged, plug-to, in-context}
 use Rattle.theory.proofs.Down.{each-node, expr-at, first-at}
 use Rattle.theory.proofs.Up.{after-left, after-right, chain, Chain, after-last}
-
--- a target in the context of remainders
-abbrev plug : List Expr → Target → Target
-plug [] t = t
-plug (r ∷ rs) t = plug rs (onto r t)
-
-abbrev plugged : List Expr → Move → Move
-plugged rs m = (m .0, plug rs (m .1))
-
-plug-to : (rs : List Expr) (e : Expr) → plug rs (to e) ≡ to (foldl product e rs)
-plug-to [] e = refl
-plug-to (r ∷ rs) e = plug-to rs (product e r)
-
--- the steps of an expression multiplied by remainders are its steps in their context
-in-context : (rs : List Expr) (e : Expr) → derivatives (foldl product e rs) ≡ map (plugged rs) (derivatives e)
-in-context [] e = sym (map-id (derivatives e))
-in-context (r ∷ rs) e = in-context rs (product e r) ∙ map-map (plugged rs) (moved r) (derivatives e)
 
 module _ (nd : ℕ → Node) (n : ℕ) (tree : Tree nd n) where
   -- what a leaf leads to

@@ -49,6 +49,8 @@ pub mod MultiSteps
 pub mod Ascending
 -- the steps of an expression as a list: derivatives-sound, derivatives-complete
 pub mod Derivatives
+-- the steps of an expression multiplied by others in turn: in-context
+pub mod Contexts
 -- induction down a table whose operands are lower
 pub mod Down
 -- where a node leads, from the root down: after-left, after-right, after-last
@@ -69,7 +71,7 @@ pub mod Rules
 -- 42 to 45 pass exactly where the relation is a bisimulation: related-iff-bisimulation; one outcome, one-relation-outcome; as a
 -- test that runs, relation-checked
 pub mod Relations
--- equality is a bisimulation, equal-states; with actions replaced one stays one, renamed-bisimulation
+-- equality is a bisimulation, equal-states; so are two, one after the other, composed; with actions replaced one stays one, renamed-bisimulation
 pub mod Systems
 -- by any rule, over any two systems with a bisimulation between them: they answer alike, followers-agree and fresh-agree; where
 -- the one has answers so has the other, follows-carried and fresh-carried. What a set shows and the answers are determined:
@@ -101,3 +103,11 @@ pub mod Forests
 -- a table in post-order is a tree, post-tree, and its root has the expression, post-expr; what is numbered is one, numbered-post, and
 -- the only one, post-numbered; as many nodes as the expression has, post-size
 pub mod PostOrders
+-- what remains at a vertex steps as the vertex does: the rules on the start's text are bisimilar to the chart, text-bisimulation
+pub mod Remains
+-- the chart of the table of the start's text is bisimilar to the drawn chart: table-bisimulation
+pub mod TextCharts
+-- by a relation that is decided: remains-at?
+pub mod Decisions
+-- G's chart gives G's expression and its table, computed of the definitions; so do a loop inside a loop, sums of three and of none
+pub mod TextCases

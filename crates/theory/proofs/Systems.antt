@@ -1,4 +1,5 @@
--- Bisimulations of systems with equal states and of systems with their actions replaced; relations lifted to sets.
+-- Bisimulations of systems with equal states, one after the other, and of systems with their actions replaced; relations lifted to
+-- sets.
 use Prim.Native.Nat.{ℕ}
 use mathlib.Core.Path.{_≡_, refl}
 use mathlib.Core.Logic.{_↔_, Iff·rfl}
@@ -17,6 +18,25 @@ equal-states e t = record {
 
 pub identity : (M : System) → Bisimulation M M _≡_
 identity M = equal-states (λ x. Iff·rfl) (λ x a y. Iff·rfl)
+
+-- ONE AFTER THE OTHER
+pub composed : {M N O : System} {R : M .State → N .State → Type 0} {Q : N .State → O .State → Type 0}
+    → Bisimulation M N R → Bisimulation N O Q → Bisimulation M O (λ x z. (y : N .State) × R x y × Q y z)
+composed {N = N} a b = record {
+  starts = (N .start, a .starts, b .starts);
+  ends = λ x z (y, r, q). (
+    (λ h. b .ends y z q .0 (a .ends x y r .0 h)),
+    (λ h. a .ends x y r .1 (b .ends y z q .1 h)),
+  );
+  forth = λ x z (y, r, q) k x′ h.
+      let (y′, i, r′) = a .forth x y r k x′ h in
+      let (z′, j, q′) = b .forth y z q k y′ i in
+      (z′, j, (y′, r′, q′));
+  back = λ x z (y, r, q) k z′ h.
+      let (y′, i, q′) = b .back y z q k z′ h in
+      let (x′, j, r′) = a .back x y r k y′ i in
+      (x′, j, (y′, r′, q′));
+}
 
 -- ACTIONS REPLACED in both systems alike: a bisimulation stays one
 pub renamed-bisimulation : {M N : System} {R : M .State → N .State → Type 0} (f : ℕ → ℕ)

@@ -1,8 +1,8 @@
 -- What remains to be done at a vertex: its text back to some vertex, that vertex's text back to another, .. , to the end.
 use mathlib.Core.List.{List, [], _∷_}
-use Prim.Native.Nat.{ℕ, _<_, _≤_}
+use Prim.Native.Nat.{ℕ, _<_}
 use Rattle.theory.specs.Expressions.{Expr, deadlock, act, sum, product, star, Target, end, to}
-use Rattle.theory.specs.Nodes.{Node, meaning}
+use Rattle.theory.specs.Nodes.{Node, Means}
 use Rattle.theory.specs.LabelledCharts.{LabelledChart}
 use Rattle.theory.specs.Texts.{Text}
 
@@ -28,6 +28,6 @@ pieces (to e) = factors e []
 abbrev pub AtVertex : LabelledChart → ℕ → Target → ℕ → Type 0
 AtVertex c vertices ξ v = Remains c vertices (pieces ξ) v
 
--- vertex u of the chart of a table of n nodes is related to v where what it stands for is
-abbrev pub Related : LabelledChart → ℕ → (ℕ → Node) → ℕ → ℕ → ℕ → Type 0
-Related c vertices nd n u v = (u ≤ n) × AtVertex c vertices (meaning nd n u) v
+-- vertex u of the chart of a table of n nodes stands for what remains at v
+abbrev pub RemainsAt : LabelledChart → ℕ → (ℕ → Node) → ℕ → ℕ → ℕ → Type 0
+RemainsAt c vertices nd n u v = (ξ : Target) × Means nd n u ξ × AtVertex c vertices ξ v
