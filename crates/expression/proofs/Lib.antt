@@ -16,3 +16,4 @@ pub mod Chart
 pub mod Occurrences
 pub mod Numbers
 pub mod Listings
+pub mod NodeBytes

@@ -3,6 +3,7 @@
 pub mod Table
 pub mod Body
 pub mod Charts
+pub mod NodeBytes
 -- What only serves proofs, the code's way there: the uses, where each node leads, the keys of the leaves and their
 -- ranks, the first actions as words, and the transitions in order.
 pub mod Uses

@@ -86,6 +86,18 @@ post-good P (bin-at {m = m} {r = r} {e = e} {f = f} o h g q) a k l u =
       ]
     ]
 
+acting-grow : (P : ℕ → Type 0) (o : Op) (e f : Expr) → Acting P e → Acting P f → Acting P (grow o e f)
+acting-grow P op-sum e f a b = (a, b)
+acting-grow P op-product e f a b = (a, b)
+acting-grow P op-star e f a b = (a, b)
+
+-- the expression's actions are those of the leaves
+pub post-acting : {nd : ℕ → Node} {b r : ℕ} {e : Expr} (P : ℕ → Type 0) → ((k a : ℕ) → nd k ≡ leaf a → P a)
+    → PostOrder nd b e r → Acting P e
+post-acting P h (dead-at q) = tt
+post-acting {b = b} P h (leaf-at {a = a} q) = h b a q
+post-acting P h (bin-at {e = e} {f = f} o x y q) = acting-grow P o e f (post-acting P h x) (post-acting P h y)
+
 -- TWO TABLES JOINED
 module _ (o : Op) (l r : ℕ) (x y : ℕ → Node) where
   joined-left : (k : ℕ) → k ≤ l → x k ≡ joined o l r x y k
