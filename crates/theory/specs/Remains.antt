@@ -1,4 +1,5 @@
--- What remains to be done at a vertex: its text back to some vertex, that vertex's text back to another, .. , to the end.
+-- What remains to be done at a vertex: its text back to some vertex, that vertex's text back to another, and so on to
+-- the end.
 use mathlib.Core.List.{List, [], _∷_}
 use Prim.Native.Nat.{ℕ, _<_}
 use Rattle.theory.specs.Expressions.{Expr, deadlock, act, sum, product, star, Target, end, to}

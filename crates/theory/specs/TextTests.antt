@@ -38,10 +38,13 @@ module _ (c : LabelledChart) (write : ℕ → ℕ → Option Expr) where
 
   unfoldable pub sumOf : Half → ℕ → ℕ → ℕ → Option (Option Expr)
   sumOf half w back zero = some none
-  sumOf half w back (suc n) = cond (inHalf c half w n) (plusAll (sumOf half w back n) (item back n)) (sumOf half w back n)
+  sumOf half w back (suc n) =
+      cond (inHalf c half w n) (plusAll (sumOf half w back n) (item back n)) (sumOf half w back n)
 
   unfoldable pub starOf : ℕ → ℕ → Option Expr
-  starOf w back = cond (eqb w 0) none (starAll (sumOf entries w w (c .chart .count)) (sumOf branches w back (c .chart .count)))
+  starOf w back =
+      cond (eqb w 0) none
+      (starAll (sumOf entries w w (c .chart .count)) (sumOf branches w back (c .chart .count)))
 
 -- the text of w back to `back`; none where the budget does not suffice or there is no text. The budget bounds how deep
 -- texts stand in texts

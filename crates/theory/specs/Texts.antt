@@ -1,5 +1,5 @@
--- The text of a vertex (document 02, C-14). The inner text of w back to v is one notion with the text of w, which is the
--- one back to the end, vertex 0.
+-- The text of a vertex (document 02, C-14). The inner text of w back to v is one notion with the text of w, which is
+-- the one back to the end, vertex 0.
 use mathlib.Core.Path.{_≡_}
 use mathlib.Core.Logic.{_≢_}
 use mathlib.Core.Option.{Option, none, some}
@@ -26,8 +26,8 @@ mutual
         → Sum c entries w w (c .chart .count) x → Sum c branches w back (c .chart .count) y
         → Text c w back (star (total x) (total y))
 
-  -- Sum c half w back n x: x is the sum, so far, of the items of those of w's entries or branches that stand below n, in
-  -- the order of transitions. An item is the action, times the target's text back to `back` unless the target is `back`
+  -- Sum c half w back n x: x is the sum, so far, of the items of those of w's entries or branches that stand below n,
+  -- in the order of transitions. An item is the action, times the target's text back to `back` unless the target is `back`
   pub data Sum (c : LabelledChart) : Half → ℕ → ℕ → ℕ → Option Expr → Type 0 where
     nothing : {half : Half} {w back : ℕ} → Sum c half w back zero none
     other : {half : Half} {w back n : ℕ} {x : Option Expr} → Sum c half w back n x
