@@ -21,7 +21,7 @@ use Rattle.chart.specs.Bodies.{countOf, fromOf, actionOf, toOf, WellFormed}
 use Rattle.chart.specs.Leaving.{Begins}
 use Rattle.chart.specs.Numbered.{Lists}
 use Rattle.chart.proofs.Order.{at-mid, between}
-use Rattle.bisimulation.specs.Relations.{indexedOf}
+use Rattle.chart.specs.Systems.{indexedOf}
 use Rattle.bisimulation.specs.Answers.{Related, Passes}
 use Rattle.bisimulation.specs.Suspects.{Match, MatchedIn}
 use Rattle.bisimulation.specs.Places.{StepPlace}

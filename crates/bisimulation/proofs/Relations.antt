@@ -20,9 +20,9 @@ use Rattle.report.specs.declared.Stage.{Stage}
 use Rattle.report.specs.declared.Stage.the-variants.{Passed, Refused}
 use Rattle.chart.specs.Bodies.{verticesOf, startOf}
 use Rattle.chart.specs.Steps.{transitionsOf}
-use Rattle.chart.specs.Systems.{systemOf}
-use Rattle.chart.proofs.Relations.{acts-member}
-use Rattle.bisimulation.specs.Relations.{indexedOf, relatedTest, strayBitTest, relationStage, relationOutcomeOf, relationOf}
+use Rattle.chart.specs.Systems.{systemOf, indexedOf}
+use Rattle.chart.proofs.Relations.{indexed-member}
+use Rattle.bisimulation.specs.Relations.{relatedTest, strayBitTest, relationStage, relationOutcomeOf, relationOf}
 use Rattle.bisimulation.specs.Answers.{Related, StrayBit, RelationFits}
 use Rattle.bisimulation.specs.RelationAnswers.{Comes, RelationAnswer, passed, other-length, no-vertex, starts-unrelated, other-end, expression-alone, chart-alone}
 use Rattle.bisimulation.proofs.RowLaws.{related-column, related-row}
@@ -107,24 +107,17 @@ relation-of {e} {b} {relation} a = one-answer a (relation-answers e b relation)
 
 -- WHAT IT SAYS
 -- a system over vertices, whose steps may be given in two ways
-abbrev vertexSystem : ℕ → (ℕ → ℕ → ℕ → Type 0) → System
+abbrev pub vertexSystem : ℕ → (ℕ → ℕ → ℕ → Type 0) → System
 vertexSystem start S = record { State = ℕ; start = start; End = λ v. v ≡ 0; Step = S }
 
 module _ {S S′ T T′ : ℕ → ℕ → ℕ → Type 0} (s : (u a w : ℕ) → S u a w ↔ S′ u a w) (t : (u a w : ℕ) → T u a w ↔ T′ u a w) where
-  same-steps : (x y : ℕ) (R : ℕ → ℕ → Type 0) → Bisimulation (vertexSystem x S) (vertexSystem y T) R → Bisimulation (vertexSystem x S′) (vertexSystem y T′) R
+  pub same-steps : (x y : ℕ) (R : ℕ → ℕ → Type 0) → Bisimulation (vertexSystem x S) (vertexSystem y T) R → Bisimulation (vertexSystem x S′) (vertexSystem y T′) R
   same-steps x y R B = record {
     starts = B .starts;
     ends = B .ends;
     forth = λ u v r a u′ z. let (v′, k, q) = B .forth u v r a u′ (s u a u′ .1 z) in (v′, t v a v′ .0 k, q);
     back = λ u v r a v′ z. let (u′, k, q) = B .back u v r a v′ (t v a v′ .1 z) in (u′, s u a u′ .0 k, q);
   }
-
--- a body's transitions by their index, and as a list
-indexed-member : (b : List ℕ) (u a w : ℕ) → indexed (indexedOf b) .Step u a w ↔ List·Memᴰ (u, a, w) (transitionsOf b)
-indexed-member b u a w = (
-  (λ (i, h, f, g, k). acts-member b u a w .0 (record { at = i; within = h; leaves = f; enters = k; holds = record { is = g } })),
-  (λ m. let z = acts-member b u a w .1 m in (z .at, z .within, z .leaves, z .holds .is, z .enters)),
-)
 
 back-again : {A B : Type 0} → A ↔ B → B ↔ A
 back-again (f, g) = (g, f)

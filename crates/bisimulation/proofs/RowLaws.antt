@@ -1,20 +1,23 @@
 -- The rows of a relation as parts of its bytes: a bit stands only in a row that is there, and in one of its 128 columns.
-use mathlib.Core.Path.{_≡_, refl, sym, _∙_, subst}
+use mathlib.Core.Path.{_≡_, refl, sym, ap, _∙_, subst}
 use mathlib.Core.Logic.{_↔_, by-cases}
 use mathlib.Core.Bool.{Bool, true, false, _&&_, false≢true}
-use mathlib.Core.List.{List}
-use Prim.Native.Nat.{ℕ, _+_, _-_, _*_, _/_, _%_, _≤_, _<_}
+use mathlib.Core.List.{List, _++_}
+use Prim.Native.Nat.{ℕ, zero, suc, _+_, _-_, _*_, _/_, _%_, _≤_, _<_}
 use native.Mathlib.Decide.{decLt}
 use native.Mathlib.Omega.{arith}
 use lib.Dec.{eqb}
-use lib.ListN.{length, getD, drop, length-take, length-drop}
-use lib.Seq.{getD-take, getD-drop}
+use lib.ListN.{length, getD, take, drop, length-append, length-take, length-drop}
+use lib.Seq.{getD-take, getD-drop, take-append-seam, drop-append-add}
 use borrow.Author.Tests.{eq-eqb, eqb-true}
+use Rattle.theory.specs.RelationTests.{RelationTest}
 use Rattle.bits.specs.declared.sets.Set.{Set}
+use Rattle.bits.specs.Bits.{hasBit, setBytes}
 use Rattle.bits.specs.Words.{On}
 use Rattle.bits.specs.Sets.{Has, Members}
 use Rattle.bits.proofs.Powers.{has-past}
-use Rattle.bisimulation.specs.Relations.{rowBytes, relatedTest}
+use Rattle.bits.proofs.SetBytes.{set-length, set-bit}
+use Rattle.bisimulation.specs.Relations.{rowBytes, rowsFrom, relatedTest}
 use Rattle.bisimulation.specs.Answers.{Related}
 use Rattle.bisimulation.specs.Suspects.{SameRow}
 
@@ -64,3 +67,32 @@ same-sets relation a b {s} {t} S T e f w l = (
   (λ r. T .exactly w l .0 (same-has s t e f w (S .exactly w l .1 r))),
   (λ r. S .exactly w l .0 (same-has t s (sym e) (sym f) w (T .exactly w l .1 r))),
 )
+
+-- THE ROWS THAT A TEST GIVES: their number, and their bits, which are those of the test
+pub rows-length : (t : RelationTest) (u n : ℕ) → length (rowsFrom t u n) ≡ 16 * n
+unfolding rowsFrom
+rows-length t u zero = refl
+rows-length t u (suc n) =
+    length-append (setBytes (t u)) (rowsFrom t (suc u) n) ∙ omega (arith, set-length (t u), rows-length t (suc u) n)
+
+-- the first sixteen bytes, and those past them
+first-row : (xs ys : List ℕ) → length xs ≡ 16 → take 16 (xs ++ ys) ≡ xs
+first-row xs ys l = ap (λ (m : ℕ). take m (xs ++ ys)) (sym l) ∙ take-append-seam xs ys
+
+later-rows : (xs ys : List ℕ) (m k : ℕ) → length xs ≡ 16 → m ≡ 16 + k → drop m (xs ++ ys) ≡ drop k ys
+later-rows xs ys m k l e = ap (λ (j : ℕ). drop j (xs ++ ys)) (e ∙ ap (λ (j : ℕ). j + k) (sym l)) ∙ drop-append-add xs ys k
+
+row-at : (t : RelationTest) (u n k : ℕ) → k < n → rowBytes (rowsFrom t u n) k ≡ setBytes (t (u + k))
+unfolding rowsFrom
+row-at t u zero k h = absurd (omega arith)
+row-at t u (suc n) zero h =
+    first-row (setBytes (t u)) (rowsFrom t (suc u) n) (set-length (t u)) ∙ ap (λ (m : ℕ). setBytes (t m)) (omega arith)
+row-at t u (suc n) (suc k) h =
+    ap (take 16) (later-rows (setBytes (t u)) (rowsFrom t (suc u) n) (16 * suc k) (16 * k) (set-length (t u)) (omega arith))
+    ∙ row-at t (suc u) n k (omega arith)
+    ∙ ap (λ (m : ℕ). setBytes (t m)) (omega arith)
+
+pub rows-test : (t : RelationTest) (n u v : ℕ) → u < n → v < 128 → relatedTest (rowsFrom t 0 n) u v ≡ t u v
+unfolding relatedTest
+rows-test t n u v h g =
+    ap (λ (s : List ℕ). hasBit s v) (row-at t 0 n u h ∙ ap (λ (m : ℕ). setBytes (t m)) (omega arith)) ∙ set-bit (t u) v g

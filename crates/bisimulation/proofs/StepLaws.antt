@@ -10,7 +10,7 @@ use Rattle.bits.specs.Bits.{Bytes}
 use Rattle.bits.specs.Words.{On}
 use Rattle.chart.specs.Bodies.{countOf, fromOf, actionOf, toOf, WellFormed}
 use Rattle.chart.specs.Numbered.{Lists, Numbered}
-use Rattle.bisimulation.specs.Relations.{indexedOf}
+use Rattle.chart.specs.Systems.{indexedOf}
 use Rattle.bisimulation.specs.Answers.{Related, Passes, ListedChart, NumberedChart}
 use Rattle.bisimulation.specs.Suspects.{Into, Acting, Match}
 use Rattle.bisimulation.specs.Small.{StepFits}

@@ -15,7 +15,8 @@ use Rattle.bits.specs.Sets.{Has}
 use Rattle.chart.specs.Bodies.{verticesOf, startOf}
 use Rattle.chart.specs.Checks.{checkOf}
 use Rattle.chart.specs.Numbered.{Lists, Numbered}
-use Rattle.bisimulation.specs.Relations.{indexedOf, relatedTest, relationStage, relationOf}
+use Rattle.chart.specs.Systems.{indexedOf}
+use Rattle.bisimulation.specs.Relations.{relatedTest, relationStage, relationOf}
 
 -- expression vertex u is related to chart vertex v
 abbrev pub Related : List ℕ → ℕ → ℕ → Type 0

@@ -1,27 +1,29 @@
 -- The checks 40 to 45 of a relation between the expression's chart and the file's chart, both given as chart bodies.
 use mathlib.Core.Bool.{Bool, cond, _&&_}
-use mathlib.Core.List.{List}
-use Prim.Native.Nat.{ℕ, _*_}
+use mathlib.Core.List.{List, [], _++_}
+use Prim.Native.Nat.{ℕ, zero, suc, _*_}
 use lib.Dec.{eqb, ltb, leb}
 use lib.ListN.{length, take, drop}
 use Rattle.theory.specs.Tests.{firstRow, lowest}
-use Rattle.theory.specs.Relations.{Indexed, RelationOutcome}
+use Rattle.theory.specs.Relations.{RelationOutcome}
 use Rattle.theory.specs.Relations.{related, starts-apart, ends-apart, left-unmatched, right-unmatched}
 use Rattle.theory.specs.RelationTests.{RelationTest, relationOutcome}
 use Rattle.report.specs.declared.Place.the-variants.{RelationLength, PairNoVertex, PairStarts}
 use Rattle.report.specs.declared.Place.the-variants.{PairEnds, PairExpressionStep, PairChartStep}
 use Rattle.report.specs.declared.Stage.{Stage}
 use Rattle.report.specs.declared.Stage.the-variants.{Passed, Refused}
-use Rattle.bits.specs.Bits.{hasBit}
-use Rattle.chart.specs.Bodies.{verticesOf, startOf, countOf, fromOf, actionOf, toOf}
-
--- a chart body's transitions by their index
-abbrev pub indexedOf : List ℕ → Indexed
-indexedOf b = record { start = startOf b; count = countOf b; from = fromOf b; action = actionOf b; to = toOf b }
+use Rattle.bits.specs.Bits.{hasBit, setBytes}
+use Rattle.chart.specs.Bodies.{verticesOf, startOf}
+use Rattle.chart.specs.Systems.{indexedOf}
 
 -- row u of a relation: 16 bytes
 abbrev pub rowBytes : List ℕ → ℕ → List ℕ
 rowBytes relation u = take 16 (drop (16 * u) relation)
+
+-- the bytes of a relation that a test gives: n rows, from row u on
+unfoldable pub rowsFrom : RelationTest → ℕ → ℕ → List ℕ
+rowsFrom t u zero = []
+rowsFrom t u (suc n) = setBytes (t u) ++ rowsFrom t (suc u) n
 
 -- expression vertex u is related to chart vertex v
 unfoldable pub relatedTest : List ℕ → RelationTest

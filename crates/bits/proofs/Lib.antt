@@ -9,3 +9,4 @@ pub mod Gains
 pub mod Ones
 pub mod Visits
 pub mod Determined
+pub mod SetBytes

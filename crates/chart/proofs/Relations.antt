@@ -10,12 +10,16 @@ use native.Mathlib.Omega.{arith}
 use lib.ListN.{length, getD}
 use borrow.Author.Tests.{eq-eqb, lt-ltb, le-ltb}
 use Rattle.theory.specs.Ascending.{Ascending}
-use Rattle.theory.specs.Charts.{Formed, Listed, Any}
+use Rattle.theory.specs.Charts.{SameSteps, Formed, Listed, Any}
+use Rattle.theory.specs.LabelledCharts.{labelledSteps}
+use Rattle.theory.specs.Relations.{indexed}
+use Rattle.theory.specs.Systems.{System}
 use Rattle.theory.specs.Transitions.{Transition, precedes}
 use Rattle.theory.proofs.Search.{look-below}
 use Rattle.bits.specs.Bits.{Bytes}
 use Rattle.chart.specs.Bodies.{verticesOf, countOf, fromOf, actionOf, toOf, keyAt, WellFormed}
 use Rattle.chart.specs.Steps.{transitionAt, transitionsFrom, transitionsOf, ActsOf, StepsOf, StandingOf, Kept}
+use Rattle.chart.specs.Systems.{indexedOf, drawnOf}
 
 -- the list of transitions
 from-length : (b : List ℕ) (i n : ℕ) → length (transitionsFrom b i n) ≡ n
@@ -77,6 +81,13 @@ acts-member b u a w = (
     triple : {x y z : ℕ} → x ≡ u → y ≡ a → z ≡ w → _≡_ {A = Transition} (x, y, z) (u, a, w)
     triple p q r = cc
 
+-- and by their index
+pub indexed-member : (b : List ℕ) (u a w : ℕ) → indexed (indexedOf b) .Step u a w ↔ List·Memᴰ (u, a, w) (transitionsOf b)
+indexed-member b u a w = (
+  (λ (i, h, f, g, k). acts-member b u a w .0 (record { at = i; within = h; leaves = f; enters = k; holds = record { is = g } })),
+  (λ m. let z = acts-member b u a w .1 m in (z .at, z .within, z .leaves, z .holds .is, z .enters)),
+)
+
 -- of bytes, a lower key comes first by from, then action, then to
 key-precedes : (b : List ℕ) → Bytes b → (i j : ℕ) → keyAt b i < keyAt b j → precedes (transitionAt b i) (transitionAt b j) ≡ true
 unfolding precedes
@@ -109,6 +120,21 @@ steps-formed b labels W = record {
   from-vertex = λ u l w s. let F = W .each (s .at) (s .within) in (omega (arith, s .leaves, F .from-low), omega (arith, s .leaves, F .from-high));
   to-vertex = λ u l w s. omega (arith, s .enters, W .each (s .at) (s .within) .to-high);
 }
+
+-- so are those of a drawn chart, which are the same
+pub drawn-steps : (b labels : List ℕ) → SameSteps (StepsOf b labels) (labelledSteps (drawnOf b labels))
+drawn-steps b labels u l w = (
+  (λ s. (s .at, s .within, s .leaves, s .holds .is, s .enters)),
+  (λ (i, h, f, g, k). record { at = i; within = h; leaves = f; enters = k; holds = record { is = g } }),
+)
+
+pub drawn-formed : (b labels : List ℕ) → WellFormed b → Formed (verticesOf b) (labelledSteps (drawnOf b labels))
+drawn-formed b labels W =
+    let F = steps-formed b labels W in
+    record {
+      from-vertex = λ u l w s. F .from-vertex u l w (drawn-steps b labels u l w .1 s);
+      to-vertex = λ u l w s. F .to-vertex u l w (drawn-steps b labels u l w .1 s);
+    }
 
 -- is there an index with these three bytes?
 steps? : (b labels : List ℕ) (u l w : ℕ) → Dec (StepsOf b labels u l w)

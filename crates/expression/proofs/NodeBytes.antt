@@ -16,7 +16,7 @@ use Rattle.theory.proofs.Tests.{decides-and, decides-eqb, decides-ltb, decides-
 use Rattle.theory.proofs.PostOrders.{Good, post-good, post-acting, post-same, post-size, post-tree, root-size, numbered-post, post-numbered}
 use Rattle.theory.proofs.TextTests.{size-some}
 use Rattle.expression.specs.Table.{kindOf, actionOf, leftOf, rightOf, parse, node, count, isGood, opOf, checkOf, WellFormed}
-use Rattle.expression.specs.NodeBytes.{opByte, kindByte, actionByte, leftByte, rightByte, bytesFrom, bytesOf, tableOf}
+use Rattle.expression.specs.NodeBytes.{opByte, kindByte, actionByte, leftByte, rightByte, nodeBytesFrom, bytesOf, tableOf}
 use Rattle.expression.proofs.Table.{well-formed→passed}
 use Rattle.expression.proofs.View.{good-dead, good-leaf, good-bin, at-dead, at-leaf, at-bin, leaf-action}
 
@@ -25,8 +25,8 @@ abbrev pub Positive : ℕ → Type 0
 Positive a = 0 < a
 
 -- THE FIELDS of node j
-pub bytes-length : (nd : ℕ → Node) (k n : ℕ) → length (bytesFrom nd k n) ≡ 4 * n
-unfolding bytesFrom
+pub bytes-length : (nd : ℕ → Node) (k n : ℕ) → length (nodeBytesFrom nd k n) ≡ 4 * n
+unfolding nodeBytesFrom
 bytes-length nd k zero = refl
 bytes-length nd k (suc n) = omega (arith, bytes-length nd (suc k) n)
 
@@ -56,8 +56,8 @@ later {s} {j} a b c d = (
   }),
 )
 
-fields : (nd : ℕ → Node) (k n j : ℕ) → j < n → Fields (bytesFrom nd k n) j (nd (k + j))
-unfolding bytesFrom
+fields : (nd : ℕ → Node) (k n j : ℕ) → j < n → Fields (nodeBytesFrom nd k n) j (nd (k + j))
+unfolding nodeBytesFrom
 fields nd k zero j h = absurd (omega arith)
 fields nd k (suc n) zero h =
     let e : k + 0 ≡ k = omega arith in rw e (record { kind = refl; action = refl; left = refl; right = refl })
@@ -170,8 +170,8 @@ node-fields s k g =
     ]
 
 bytes-are : (nd : ℕ → Node) (k n : ℕ) (s : List ℕ) → 4 * n ≤ length s
-    → ((j : ℕ) → j < n → Fields s j (nd (k + j))) → take (4 * n) s ≡ bytesFrom nd k n
-unfolding bytesFrom
+    → ((j : ℕ) → j < n → Fields s j (nd (k + j))) → take (4 * n) s ≡ nodeBytesFrom nd k n
+unfolding nodeBytesFrom
 bytes-are nd k zero s b h = refl
 bytes-are nd k (suc n) [] b h = absurd (omega arith)
 bytes-are nd k (suc n) (p ∷ []) b h = absurd (omega arith)

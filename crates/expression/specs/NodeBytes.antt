@@ -36,14 +36,14 @@ rightByte (leaf a) = 0
 rightByte (bin o l r) = r
 
 -- the n nodes from k on
-unfoldable pub bytesFrom : (ℕ → Node) → ℕ → ℕ → List ℕ
-bytesFrom nd k zero = []
-bytesFrom nd k (suc n) =
-    kindByte (nd k) ∷ actionByte (nd k) ∷ leftByte (nd k) ∷ rightByte (nd k) ∷ bytesFrom nd (suc k) n
+unfoldable pub nodeBytesFrom : (ℕ → Node) → ℕ → ℕ → List ℕ
+nodeBytesFrom nd k zero = []
+nodeBytesFrom nd k (suc n) =
+    kindByte (nd k) ∷ actionByte (nd k) ∷ leftByte (nd k) ∷ rightByte (nd k) ∷ nodeBytesFrom nd (suc k) n
 
 -- the first n nodes
 abbrev pub bytesOf : (ℕ → Node) → ℕ → List ℕ
-bytesOf nd n = bytesFrom nd 0 n
+bytesOf nd n = nodeBytesFrom nd 0 n
 
 -- an expression's nodes in post-order
 abbrev pub tableOf : Expr → List ℕ

@@ -39,7 +39,8 @@ use Rattle.follower.specs.Calls.{setTest, stateStage, readyOf, followedA
 use Rattle.follower.specs.FollowerAnswers.{FreshStart, SetPasses, Possible, Shown, CallAnswer, no-set, restarts, goes, stays, LentAnswer, other-length, holds-state}
 use Rattle.follower.specs.FollowerAnswers as answers
 use Rattle.follower.specs.Lists.{RuleResponds}
-use Rattle.follower.proofs.Bytes.{set-length, set-bytes, same-bytes, members-are, set-has}
+use Rattle.bits.proofs.SetBytes.{set-length, set-bytes, same-bytes}
+use Rattle.follower.proofs.Bytes.{members-are, set-has}
 
 -- STATES with the same vertices are the same
 pub same-state : {f g : Follower} → Formed f → Formed g → ((v : ℕ) → InState f v ↔ InState g v) → f ≡ g

@@ -40,7 +40,8 @@ use Rattle.follower.specs.Parts.{Same, VerticesFit, StepBy, CountOffered
 use Rattle.follower.specs.Calls.{stateStage, followedAs, answerOf, stateAfter, moved, ruledOf}
 use Rattle.follower.specs.FollowerAnswers.{SetPasses}
 use Rattle.follower.proofs.Calls.{tests-set, state-ready, state-unready}
-use Rattle.follower.proofs.Bytes.{set-length, set-bytes, set-has, same-bytes, list-from→, list-from←, list-ascends, members-are}
+use Rattle.bits.proofs.SetBytes.{set-length, set-bytes, same-bytes}
+use Rattle.follower.proofs.Bytes.{set-has, list-from→, list-from←, list-ascends, members-are}
 
 -- the set that is read from a state's bytes
 pub read-same : (f : Follower) {set : Set} → Members (λ (w : ℕ). On (getD (f .set) (0 + w / 8) 0) (w % 8)) set → Same set (membersOf f)

@@ -19,7 +19,7 @@ use Rattle.chart.specs.Steps.{StepsOf}
 use Rattle.expression.specs.Table as nodes
 use Rattle.expression.specs.Body.{bodyOf}
 use Rattle.witness.specs.LabellingAnswers as labelling
-use Rattle.bisimulation.specs.Relations.{indexedOf}
+use Rattle.chart.specs.Systems.{indexedOf}
 use Rattle.bisimulation.specs.Answers.{Related, StrayBit, RelationFits}
 use Rattle.bisimulation.specs.RelationAnswers.{Comes}
 use Rattle.verdict.specs.Files.{endAt, kindAt, offsetOf, HasHeader, Whole, RecordsBefore}

@@ -19,6 +19,16 @@ equal-states e t = record {
 pub identity : (M : System) → Bisimulation M M _≡_
 identity M = equal-states (λ x. Iff·rfl) (λ x a y. Iff·rfl)
 
+-- THE SAME RELATION, stated in another way
+pub same-relation : {M N : System} {R Q : M .State → N .State → Type 0} → ((x : M .State) (y : N .State) → R x y ↔ Q x y)
+    → Bisimulation M N R → Bisimulation M N Q
+same-relation s b = record {
+  starts = s _ _ .0 (b .starts);
+  ends = λ x y q. b .ends x y (s x y .1 q);
+  forth = λ x y q a x′ h. let (y′, k, r) = b .forth x y (s x y .1 q) a x′ h in (y′, k, s x′ y′ .0 r);
+  back = λ x y q a y′ h. let (x′, k, r) = b .back x y (s x y .1 q) a y′ h in (x′, k, s x′ y′ .0 r);
+}
+
 -- ONE AFTER THE OTHER
 pub composed : {M N O : System} {R : M .State → N .State → Type 0} {Q : N .State → O .State → Type 0}
     → Bisimulation M N R → Bisimulation N O Q → Bisimulation M O (λ x z. (y : N .State) × R x y × Q y z)
