@@ -9,5 +9,6 @@ pub mod ShortestWay
 pub mod LoopsTogether
 pub mod VertexTransitions
 pub mod Accepted
+pub mod Extracted
 pub mod Demand2
 pub mod Demand3
