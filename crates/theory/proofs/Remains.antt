@@ -21,13 +21,34 @@ plus-derivatives : (x : Option Expr) (e : Expr) → derivatives (plus x e) ≡ d
 plus-derivatives none e = refl
 plus-derivatives (some d) e = refl
 
--- a step m of what stands in the context es is transition i
 module _ (c : LabelledChart) (vertices : ℕ) where
-  record Done (es : List Expr) (m : Move) (i : ℕ) : Type 0 where
+  -- m is a step by transition i, to what remains there
+  record Goes (m : Move) (i : ℕ) : Type 0 where
     acts : m .0 ≡ c .chart .action i
     left : List Expr
     remains : Remains c vertices left (c .chart .to i)
-    leads : plug es (m .1) ≡ plug left end
+    leads : m .1 ≡ plug left end
+
+  -- a step of e which, in the context es, is by transition i
+  record Stepped (e : Expr) (es : List Expr) (i : ℕ) : Type 0 where
+    move : Move
+    listed : List·Memᴰ move (derivatives e)
+    goes : Goes (plugged es move) i
+
+  earlier : {es : List Expr} {i : ℕ} (x : Option Expr) (e : Expr) → Stepped (total x) es i → Stepped (plus x e) es i
+  earlier x e s = record {
+    move = s .move;
+    listed = rw (plus-derivatives x e) (Memᴰ·append-left (derivatives e) (s .listed));
+    goes = s .goes;
+  }
+
+  latest : {es : List Expr} {i : ℕ} (x : Option Expr) (e : Expr) (m : Move) → derivatives e ≡ m ∷ [] → Goes (plugged es m) i
+      → Stepped (plus x e) es i
+  latest x e m q g = record {
+    move = m;
+    listed = rw (plus-derivatives x e) (Memᴰ·append-right (derivatives (total x)) (rw q (List·Memᴰ·head refl)));
+    goes = g;
+  }
 
   module _ (formed : Formed vertices (labelledSteps c)) where
     below : (i : ℕ) → i < c .chart .count → c .chart .to i < vertices
@@ -38,49 +59,30 @@ module _ (c : LabelledChart) (vertices : ℕ) where
         let b = formed .from-vertex (c .chart .from i) (c .label i) (c .chart .to i) (i, h, refl, refl, refl) in omega arith
 
     -- the one step of an item
-    done-alone : {es : List Expr} {back i : ℕ} → Remains c vertices es back → c .chart .to i ≡ back
-        → Done es (c .chart .action i, end) i
-    done-alone {es} r e = record { acts = refl; left = es; remains = rw e r; leads = refl }
+    goes-alone : {es : List Expr} {back i : ℕ} → Remains c vertices es back → c .chart .to i ≡ back
+        → Goes (plugged es (c .chart .action i, end)) i
+    goes-alone {es} r e = record { acts = refl; left = es; remains = rw e r; leads = refl }
 
-    done-times : {es : List Expr} {back i : ℕ} {e : Expr} → Remains c vertices es back → i < c .chart .count
-        → Text c (c .chart .to i) back e → Done es (c .chart .action i, to e) i
-    done-times {es} {i = i} {e = e} r h t = record { acts = refl; left = e ∷ es; remains = next (below i h) t r; leads = refl }
+    goes-times : {es : List Expr} {back i : ℕ} {e : Expr} → Remains c vertices es back → i < c .chart .count
+        → Text c (c .chart .to i) back e → Goes (plugged es (c .chart .action i, to e)) i
+    goes-times {es} {i = i} {e = e} r h t = record { acts = refl; left = e ∷ es; remains = next (below i h) t r; leads = refl }
 
     -- each step of a sum is one of its transitions, and each of its transitions a step
     sum-forth : {half : Half} {w back n : ℕ} {x : Option Expr} {es : List Expr} → Sum c half w back n x → n ≤ c .chart .count
-        → Remains c vertices es back → (m : Move) → List·Memᴰ m (derivatives (total x)) → (i : ℕ) × (i < n) × InHalf c half w i × Done es m i
+        → Remains c vertices es back → (m : Move) → List·Memᴰ m (derivatives (total x))
+        → (i : ℕ) × (i < n) × InHalf c half w i × Goes (plugged es m) i
     sum-forth nothing b r m h = absurd (List·Memᴰ·not-nil h)
     sum-forth (other s g) b r m h = let (i, l, o, d) = sum-forth s (omega arith) r m h in (i, omega arith, o, d)
     sum-forth {es = es} (alone {n = n} {x = x} s o e) b r m h =
         ⊎-elim
         (λ q. let (i, l, p, d) = sum-forth s (omega arith) r m q in (i, omega arith, p, d))
-        (λ q. (n, omega arith, o, subst (λ (k : Move). Done es k n) (sym (List·Memᴰ·eq-of-singleton q)) (done-alone r e)))
+        (λ q. (n, omega arith, o, subst (λ (k : Move). Goes (plugged es k) n) (sym (List·Memᴰ·eq-of-singleton q)) (goes-alone r e)))
         (List·Memᴰ·append-cases (derivatives (total x)) (rw (plus-derivatives x (act (c .chart .action n))) at h))
     sum-forth {es = es} (times {n = n} {x = x} {e = f} s o e t) b r m h =
         ⊎-elim
         (λ q. let (i, l, p, d) = sum-forth s (omega arith) r m q in (i, omega arith, p, d))
-        (λ q. (n, omega arith, o, subst (λ (k : Move). Done es k n) (sym (List·Memᴰ·eq-of-singleton q)) (done-times r b t)))
+        (λ q. (n, omega arith, o, subst (λ (k : Move). Goes (plugged es k) n) (sym (List·Memᴰ·eq-of-singleton q)) (goes-times r b t)))
         (List·Memᴰ·append-cases (derivatives (total x)) (rw (plus-derivatives x (product (act (c .chart .action n)) f)) at h))
-
-    record Stepped (e : Expr) (es : List Expr) (i : ℕ) : Type 0 where
-      move : Move
-      listed : List·Memᴰ move (derivatives e)
-      done : Done es move i
-
-    earlier : {es : List Expr} {i : ℕ} (x : Option Expr) (e : Expr) → Stepped (total x) es i → Stepped (plus x e) es i
-    earlier x e s = record {
-      move = s .move;
-      listed = rw (plus-derivatives x e) (Memᴰ·append-left (derivatives e) (s .listed));
-      done = s .done;
-    }
-
-    latest : {es : List Expr} {i : ℕ} (x : Option Expr) (e : Expr) (m : Move) → derivatives e ≡ m ∷ [] → Done es m i
-        → Stepped (plus x e) es i
-    latest x e m q d = record {
-      move = m;
-      listed = rw (plus-derivatives x e) (Memᴰ·append-right (derivatives (total x)) (rw q (List·Memᴰ·head refl)));
-      done = d;
-    }
 
     sum-back : {half : Half} {w back n : ℕ} {x : Option Expr} {es : List Expr} → Sum c half w back n x → n ≤ c .chart .count
         → Remains c vertices es back → (i : ℕ) → i < n → InHalf c half w i → Stepped (total x) es i
@@ -89,66 +91,60 @@ module _ (c : LabelledChart) (vertices : ℕ) where
       | yes q ↦ absurd (g (subst (InHalf c half w) q o))
       | no q ↦ sum-back s (omega arith) r i (omega arith) o
     ]
-    sum-back {es = es} (alone {n = n} {x = x} s g e) b r i l o = elim (ℕ-discrete i n) [
-      | yes q ↦ rw q (latest x (act (c .chart .action n)) (c .chart .action n, end) refl (done-alone r e))
+    sum-back (alone {n = n} {x = x} s g e) b r i l o = elim (ℕ-discrete i n) [
+      | yes q ↦ rw q (latest x (act (c .chart .action n)) (c .chart .action n, end) refl (goes-alone r e))
       | no q ↦ earlier x (act (c .chart .action n)) (sum-back s (omega arith) r i (omega arith) o)
     ]
-    sum-back {es = es} (times {n = n} {x = x} {e = f} s g e t) b r i l o = elim (ℕ-discrete i n) [
-      | yes q ↦ rw q (latest x (product (act (c .chart .action n)) f) (c .chart .action n, to f) refl (done-times r b t))
+    sum-back (times {n = n} {x = x} {e = f} s g e t) b r i l o = elim (ℕ-discrete i n) [
+      | yes q ↦ rw q (latest x (product (act (c .chart .action n)) f) (c .chart .action n, to f) refl (goes-times r b t))
       | no q ↦ earlier x (product (act (c .chart .action n)) f) (sum-back s (omega arith) r i (omega arith) o)
     ]
 
-    -- each step of what remains at v is a transition that leaves v, and each such transition a step
-    record Left (v : ℕ) (m : Move) (i : ℕ) : Type 0 where
-      within : i < c .chart .count
-      leaves : c .chart .from i ≡ v
-      acts : m .0 ≡ c .chart .action i
-      left : List Expr
-      remains : Remains c vertices left (c .chart .to i)
-      leads : m .1 ≡ plug left end
-
-    left-of : {w i : ℕ} {es : List Expr} {m : Move} → i < c .chart .count → c .chart .from i ≡ w → Done es m i → Left w (m .0, plug es (m .1)) i
-    left-of h o d = record { within = h; leaves = o; acts = d .acts; left = d .left; remains = d .remains; leads = d .leads }
-
+    -- each step of a text is a transition of its vertex, and each of these a step
     text-forth : {v back : ℕ} {e : Expr} {es : List Expr} → v < vertices → Text c v back e → Remains c vertices es back
-        → (m : Move) → List·Memᴰ m (derivatives e) → (i : ℕ) × Left v (m .0, plug es (m .1)) i
-    text-forth {v} {back} {es = es} b (text {x = x} {y = y} h s t) r m k =
+        → (m : Move) → List·Memᴰ m (derivatives e)
+        → (i : ℕ) × (i < c .chart .count) × (c .chart .from i ≡ v) × Goes (plugged es m) i
+    text-forth {es = es} b (text {x = x} {y = y} h s t) r m k =
         let again = moved (star (total x) (total y)) in
         ⊎-elim
         (λ q. let (n, l, g) = Memᴰ·of-map again (derivatives (total x)) q in
         let (i, j, o, d) = sum-forth s (omega arith) (next b (text h s t) r) n l in
-        (i, subst (λ (a : Move). Left v (a .0, plug es (a .1)) i) g (left-of j (o .0) d)))
-        (λ q. let (i, j, o, d) = sum-forth t (omega arith) r m q in (i, left-of j (o .0) d))
+        (i, j, o .0, subst (λ (a : Move). Goes (plugged es a) i) g d))
+        (λ q. let (i, j, o, d) = sum-forth t (omega arith) r m q in (i, j, o .0, d))
         (List·Memᴰ·append-cases (map again (derivatives (total x))) k)
 
-    forth : {es : List Expr} {v : ℕ} → Remains c vertices es v → (m : Move) → List·Memᴰ m (moves (plug es end))
-        → (i : ℕ) × Left v m i
-    forth over m h = absurd (List·Memᴰ·not-nil h)
-    forth {v = v} (next {e = e} {es = es} b t r) m h =
-        let (n, l, g) = Memᴰ·of-map (plugged es) (derivatives e) (rw (moves-plug es e) at h) in
-        let (i, d) = text-forth b t r n l in
-        (i, subst (λ (a : Move). Left v a i) g d)
-
     text-back : {v back : ℕ} {e : Expr} {es : List Expr} → v < vertices → Text c v back e → Remains c vertices es back
-        → (i : ℕ) → i < c .chart .count → c .chart .from i ≡ v
-        → (m : Move) × List·Memᴰ m (derivatives e) × Left v (m .0, plug es (m .1)) i
-    text-back {v} {back} {es = es} b (text {x = x} {y = y} h s t) r i j o =
+        → (i : ℕ) → i < c .chart .count → c .chart .from i ≡ v → Stepped e es i
+    text-back b (text {x = x} {y = y} h s t) r i j o =
         let again = moved (star (total x) (total y)) in
         elim (ℕ-discrete (c .label i) 0) [
           | yes z ↦
               let k = sum-back t (omega arith) r i j (o, z) in
-              (k .move, Memᴰ·append-right (map again (derivatives (total x))) (k .listed), left-of j o (k .done))
+              record { move = k .move; listed = Memᴰ·append-right (map again (derivatives (total x))) (k .listed); goes = k .goes }
           | no z ↦
               let k = sum-back s (omega arith) (next b (text h s t) r) i j (o, z) in
-              (again (k .move), Memᴰ·append-left (derivatives (total y)) (Memᴰ·map again (k .listed)), left-of j o (k .done))
+              record {
+                move = again (k .move);
+                listed = Memᴰ·append-left (derivatives (total y)) (Memᴰ·map again (k .listed));
+                goes = k .goes;
+              }
         ]
 
+    -- and so it is with what remains at v
+    forth : {es : List Expr} {v : ℕ} → Remains c vertices es v → (m : Move) → List·Memᴰ m (moves (plug es end))
+        → (i : ℕ) × (i < c .chart .count) × (c .chart .from i ≡ v) × Goes m i
+    forth over m h = absurd (List·Memᴰ·not-nil h)
+    forth (next {e = e} {es = es} b t r) m h =
+        let (n, l, g) = Memᴰ·of-map (plugged es) (derivatives e) (rw (moves-plug es e) at h) in
+        let (i, j, o, d) = text-forth b t r n l in
+        (i, j, o, subst (λ (a : Move). Goes a i) g d)
+
     back : {es : List Expr} {v : ℕ} → Remains c vertices es v → (i : ℕ) → i < c .chart .count → c .chart .from i ≡ v
-        → (m : Move) × List·Memᴰ m (moves (plug es end)) × Left v m i
+        → (m : Move) × List·Memᴰ m (moves (plug es end)) × Goes m i
     back over i h e = absurd (not-from-end i h e)
     back (next {e = e} {es = es} b t r) i h o =
-        let (m, l, d) = text-back b t r i h o in
-        (plugged es m, rw (moves-plug es e) (Memᴰ·map (plugged es) l), d)
+        let k = text-back b t r i h o in
+        (plugged es (k .move), rw (moves-plug es e) (Memᴰ·map (plugged es) (k .listed)), k .goes)
 
     -- what remains tells its pieces, and whether the vertex is the end
     remains-pieces : {es : List Expr} {v : ℕ} → Remains c vertices es v → pieces (plug es end) ≡ es
@@ -169,9 +165,12 @@ module _ (c : LabelledChart) (vertices : ℕ) where
         starts = at-vertex (next low t over) refl;
         ends = λ ξ v r. rw (plug-pieces ξ) at (ends r);
         forth = λ ξ v r a η s.
-            let (i, d) = forth r (a, η) (rw (plug-pieces ξ) (moves-complete s)) in
-            (c .chart .to i, (i, d .within, d .leaves, sym (d .acts), refl), at-vertex (d .remains) (d .leads));
+            let (i, h, f, d) = forth r (a, η) (rw (plug-pieces ξ) (moves-complete s)) in
+            (c .chart .to i, (i, h, f, sym (d .acts), refl), at-vertex (d .remains) (d .leads));
         back = λ ξ v r a w (i, h, f, g, k).
-            let (m, l, d) = back r i h f in
-            (m .1, rw (← g, ← d .acts) (moves-sound ξ m (rw (plug-pieces ξ) at l)), rw (← k) (at-vertex (d .remains) (d .leads)));
+            let (m, l, d) = back r i h f in (
+              m .1,
+              rw (← g, ← d .acts) (moves-sound ξ m (rw (plug-pieces ξ) at l)),
+              rw (← k) (at-vertex (d .remains) (d .leads)),
+            );
       }
