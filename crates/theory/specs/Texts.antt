@@ -27,7 +27,8 @@ mutual
         → Text c w back (star (total x) (total y))
 
   -- Sum c half w back n x: x is the sum, so far, of the items of those of w's entries or branches that stand below n,
-  -- in the order of transitions. An item is the action, times the target's text back to `back` unless the target is `back`
+  -- in the order of transitions. An item is the action, times the target's text back to `back` unless the target is
+  -- `back`
   pub data Sum (c : LabelledChart) : Half → ℕ → ℕ → ℕ → Option Expr → Type 0 where
     nothing : {half : Half} {w back : ℕ} → Sum c half w back zero none
     other : {half : Half} {w back n : ℕ} {x : Option Expr} → Sum c half w back n x
