@@ -2,13 +2,17 @@
 use Prim.Native.Nat.{ℕ, zero, suc, _+_, _*_, _/_, _%_, _^_, _≤_, _<_}
 use mathlib.Core.Path.{_≡_}
 use mathlib.Core.Bool.{Bool, cond}
-use mathlib.Core.List.{List, [], _∷_}
-use lib.ListN.{length, getD}
+use mathlib.Core.List.{List, [], _∷_, _++_}
+use lib.ListN.{length, getD, drop}
 use lib.Dec.{eqb}
 
 -- every element is a byte, as those of a slice of bytes are
 abbrev pub Bytes : List ℕ → Type 0
 Bytes b = (k : ℕ) → getD b k 0 < 256
+
+-- lent bytes with xs at their beginning; those past it are kept
+abbrev pub bytesWith : List ℕ → List ℕ → List ℕ
+bytesWith xs out = xs ++ drop (length xs) out
 
 -- whether v is in the set; past the last byte nothing is
 abbrev pub hasBit : List ℕ → ℕ → Bool

@@ -26,7 +26,7 @@ use Rattle.report.specs.declared.Stage.{Stage}
 use Rattle.report.specs.declared.Stage.the-variants as stage
 use Rattle.report.specs.declared.Way.{Way}
 use Rattle.report.specs.declared.Way.the-variants.{Length, Refused, NoWay}
-use Rattle.bits.specs.Bits.{Bytes}
+use Rattle.bits.specs.Bits.{Bytes, bytesWith}
 use Rattle.bits.specs.declared.sets.Set.{Set}
 use Rattle.bits.specs.Sets.{Has}
 use Rattle.chart.specs.Bodies.{verticesOf, startOf, WellFormed}
@@ -38,7 +38,7 @@ use Rattle.chart.proofs.Relations.{acts-member}
 use Rattle.follower.specs.declared.Follower.{Follower}
 use Rattle.follower.specs.States.{stateSize, stateIn, InState, membersOf}
 use Rattle.follower.specs.Calls.{stateStage, followedAs}
-use Rattle.follower.specs.Ways.{eventsToEnd, shortestList, bytesStage, wayOf, wayLeft, bytesWith}
+use Rattle.follower.specs.Ways.{eventsToEnd, shortestList, bytesStage, wayOf, wayLeft}
 use Rattle.follower.specs.WayAnswers.{eventAnswers, afterEvents, EndsAfter, ShortestWay, OnlyTaken, NoEnd, StatePasses, WayAnswer, other-chart, no-state, no-way, too-short, written}
 use Rattle.follower.specs.Layers as layers
 use Rattle.follower.specs.Layers.{SomeEnds, WayFrom}

@@ -14,12 +14,12 @@ use Rattle.report.specs.declared.Place.{Place}
 use Rattle.report.specs.declared.Place.the-variants as place
 use Rattle.report.specs.declared.Way.{Way}
 use Rattle.report.specs.declared.Way.the-variants.{Length, Refused, NoWay}
+use Rattle.bits.specs.Bits.{bytesWith}
 use Rattle.chart.specs.Bodies.{WellFormed}
 use Rattle.chart.specs.Refusals.{ChartRefused}
 use Rattle.follower.specs.States.{stateSize, stateIn, InState}
 use Rattle.follower.specs.FollowerAnswers.{SetPasses}
 use Rattle.follower.specs.Calls.{lentOn}
-use Rattle.follower.specs.Ways.{bytesWith}
 
 -- EVENTS from a state, each on the bytes that the one before left: the answers, and the bytes after them
 abbrev pub eventAnswers : (b s xs : List ℕ) → List Followed

@@ -2,15 +2,16 @@
 -- after it.
 use Prim.Native.Nat.{ℕ}
 use mathlib.Core.Bool.{cond}
-use mathlib.Core.List.{List, _++_}
+use mathlib.Core.List.{List}
 use lib.Dec.{eqb, ltb}
-use lib.ListN.{length, drop}
+use lib.ListN.{length}
 use Rattle.theory.specs.WayTests.{stepsToEnd, lowestList}
 use Rattle.report.specs.declared.Place.the-variants as place
 use Rattle.report.specs.declared.Stage.{Stage}
 use Rattle.report.specs.declared.Stage.the-variants as stage
 use Rattle.report.specs.declared.Way.{Way}
 use Rattle.report.specs.declared.Way.the-variants.{Length, Refused, NoWay}
+use Rattle.bits.specs.Bits.{bytesWith}
 use Rattle.chart.specs.Bodies.{verticesOf}
 use Rattle.chart.specs.Checks.{checkOf}
 use Rattle.chart.specs.Systems.{machineOf}
@@ -43,9 +44,6 @@ wayOf b s lent =
     NoWay))
 
 -- the lent bytes after the call: as they were, or the list and what stood past it
-abbrev pub bytesWith : List ℕ → List ℕ → List ℕ
-bytesWith xs out = xs ++ drop (length xs) out
-
 abbrev pub bytesFor : Way → List ℕ → List ℕ → List ℕ
 bytesFor (Length n) xs out = bytesWith xs out
 bytesFor (Refused p) xs out = out
