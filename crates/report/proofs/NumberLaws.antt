@@ -8,7 +8,7 @@ use native.Mathlib.Omega.{arith}
 use lib.Dec.{eqb, ltb}
 use borrow.Author.Tests.{ne-eqb}
 use Rattle.report.specs.Numbers.{placeNumbers, verdictNumbers, writtenNumbers, removedNumbers, togetherNumbers, flag}
-use Rattle.report.specs.Numbers.{followedNumbers, wayNumbers}
+use Rattle.report.specs.Numbers.{followedNumbers, wayNumbers, extractedNumbers}
 use Rattle.report.specs.declared.Numbers.{Numbers}
 use Rattle.report.specs.declared.Place.{Place}
 use Rattle.report.specs.declared.Place.the-variants.{File, Record, RecordKind, FileOffset, NodesLength, Node, NodeUses, ChartHeader, Transition, LabelsLength, Unreached, BranchCycle, LoopNoReturn, LoopEndInside, LoopNotLower, RelationLength, PairNoVertex, PairStarts, PairEnds, PairExpressionStep, PairChartStep, FollowerSet, OutputLength}
@@ -24,6 +24,8 @@ use Rattle.report.specs.declared.Followed.{Followed}
 use Rattle.report.specs.declared.Followed.the-variants as followed
 use Rattle.report.specs.declared.Way.{Way}
 use Rattle.report.specs.declared.Way.the-variants as way
+use Rattle.report.specs.declared.Extracted.{Extracted}
+use Rattle.report.specs.declared.Extracted.the-variants as extracted
 
 -- the refusal that has these numbers
 placeAt : Numbers → Place
@@ -236,3 +238,23 @@ way-at way.NoWay = refl
 
 pub one-way : (x y : Way) → wayNumbers x ≡ wayNumbers y → x ≡ y
 one-way x y e = sym (way-at x) ∙ ap wayAt e ∙ way-at y
+
+-- and no two answers of writing the expression of a chart
+extractedAt : Numbers → Extracted
+extractedAt k =
+    cond (eqb (k .n) 0) (extracted.Length (k .p))
+    (cond (eqb (k .n) 58) extracted.TooManyNodes
+    (extracted.Refused (placeAt k)))
+
+extracted-at : (x : Extracted) → extractedAt (extractedNumbers x) ≡ x
+unfolding extractedAt placed
+extracted-at (extracted.Length length) = refl
+extracted-at (extracted.Refused place) =
+    rw (
+      ne-eqb (placeNumbers place .n) 0 (λ e. omega (arith, e, numbered place)),
+      ne-eqb (placeNumbers place .n) 58 (not-place place 58 refl),
+    ) (ap extracted.Refused (place-at place))
+extracted-at extracted.TooManyNodes = refl
+
+pub one-extracted : (x y : Extracted) → extractedNumbers x ≡ extractedNumbers y → x ≡ y
+one-extracted x y e = sym (extracted-at x) ∙ ap extractedAt e ∙ extracted-at y

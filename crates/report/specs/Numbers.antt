@@ -16,6 +16,8 @@ use Rattle.report.specs.declared.Followed.{Followed}
 use Rattle.report.specs.declared.Followed.the-variants as followed
 use Rattle.report.specs.declared.Way.{Way}
 use Rattle.report.specs.declared.Way.the-variants as way
+use Rattle.report.specs.declared.Extracted.{Extracted}
+use Rattle.report.specs.declared.Extracted.the-variants as extracted
 
 abbrev pub four : ℕ → ℕ → ℕ → ℕ → Numbers
 four n p q r = record { n = n; p = p; q = q; r = r }
@@ -85,3 +87,9 @@ abbrev pub wayNumbers : Way → Numbers
 wayNumbers (way.Length length) = four 0 length 0 0
 wayNumbers (way.Refused place) = placeNumbers place
 wayNumbers way.NoWay = four 55 0 0 0
+
+-- nothing refused: 0, and the length
+abbrev pub extractedNumbers : Extracted → Numbers
+extractedNumbers (extracted.Length length) = four 0 length 0 0
+extractedNumbers (extracted.Refused place) = placeNumbers place
+extractedNumbers extracted.TooManyNodes = four 58 0 0 0

@@ -1,7 +1,7 @@
 // The answers, and document 01's number and values (n, p, q, r) for each of their cases.
 ghost use mathlib.Core.Path.{_≡_};
 ghost use Rattle.report.specs.Numbers.{four, placeNumbers, verdictNumbers, writtenNumbers, removedNumbers};
-ghost use Rattle.report.specs.Numbers.{togetherNumbers, flag, followedNumbers, wayNumbers};
+ghost use Rattle.report.specs.Numbers.{togetherNumbers, flag, followedNumbers, wayNumbers, extractedNumbers};
 
 // A refusal of the check, or one that several calls share; it holds its place. One case for each number.
 pub enum Place {
@@ -116,6 +116,15 @@ pub enum Way {
     Refused(Place),
     // 55: no list of events reaches the end
     NoWay,
+}
+
+// What writing the expression of a chart answers: the length in bytes, or a refusal.
+pub enum Extracted {
+    Length(usize),
+    // 20, 21: of the chart; 30 to 35: of the labelling; 54: lent output too short
+    Refused(Place),
+    // 58: the table would have more than 127 nodes
+    TooManyNodes,
 }
 
 // The refusal's number, or 0 where nothing is refused, and three values.
@@ -238,5 +247,15 @@ pub fn way_numbers(way: Way) -> Numbers
         Way::Length(length) => four_numbers(0, length, 0, 0),
         Way::Refused(place) => place_numbers(place),
         Way::NoWay => four_numbers(55, 0, 0, 0),
+    }
+}
+
+pub fn extracted_numbers(extracted: Extracted) -> Numbers
+    ensures { λ r. ⌜ r ≡ extractedNumbers extracted ⌝ }
+{
+    match extracted {
+        Extracted::Length(length) => four_numbers(0, length, 0, 0),
+        Extracted::Refused(place) => place_numbers(place),
+        Extracted::TooManyNodes => four_numbers(58, 0, 0, 0),
     }
 }
