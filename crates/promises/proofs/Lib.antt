@@ -7,8 +7,9 @@ pub mod Removal
 pub mod Follower
 pub mod ShortestWay
 pub mod LoopsTogether
+pub mod TextRelations
+pub mod Extraction
 pub mod VertexTransitions
 pub mod Accepted
-pub mod Extracted
 pub mod Demand2
 pub mod Demand3

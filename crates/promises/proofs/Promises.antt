@@ -7,9 +7,11 @@ use Rattle.promises.proofs.ExpressionChart.{chart-numbers}
 use Rattle.promises.proofs.Removal.{removal-numbers}
 use Rattle.promises.proofs.Follower.{lent-numbers, call-numbers, restart-numbers}
 use Rattle.report.proofs.NumberLaws.{one-verdict, one-written, one-removed, one-together, one-followed, one-way}
+use Rattle.report.proofs.NumberLaws.{one-extracted}
 use Rattle.promises.proofs.VertexTransitions.{handed-back}
 use Rattle.promises.proofs.ShortestWay.{way-numbers, of-shortest-ways}
 use Rattle.promises.proofs.LoopsTogether.{together-numbers, in-every-order, empty-done, over-accepted}
+use Rattle.promises.proofs.Extraction.{extraction-numbers, of-start-texts, of-written, gives-G}
 use Rattle.promises.proofs.Demand2.{writes-the-chart, labelling-passes, relation-passes}
 use Rattle.promises.proofs.Demand3.{demand-3}
 
@@ -21,7 +23,7 @@ promises = record {
   on-lent-bytes = lent-numbers;
   on-a-state = call-numbers;
   restart-by-value = restart-numbers;
-  numbers-tell = (one-verdict, one-written, one-removed, one-together, one-followed, one-way);
+  numbers-tell = (one-verdict, one-written, one-removed, one-together, one-followed, one-way, one-extracted);
   vertex-transitions = handed-back;
   accepted = accepted-iff-holds;
   writes-the-chart = writes-the-chart;
@@ -34,4 +36,8 @@ promises = record {
   in-every-order = in-every-order;
   empty-done = λ b labels standing B F. empty-done B F;
   together-accepted = λ f bytes v t l accepted X of-file standing h. over-accepted f bytes accepted of-file h;
+  expression-of-chart = extraction-numbers;
+  start-texts = of-start-texts;
+  written-tables = of-written;
+  gives-G = gives-G;
 }

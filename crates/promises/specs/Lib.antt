@@ -9,6 +9,7 @@ pub mod Removal
 pub mod Follower
 pub mod ShortestWay
 pub mod LoopsTogether
+pub mod Extraction
 pub mod VertexTransitions
 -- what an accepted file is
 pub mod Accepted

@@ -4,13 +4,14 @@
 use mathlib.Core.Path.{_≡_}
 use mathlib.Core.Logic.{_↔_}
 use mathlib.Core.List.{List}
+use lib.ListN.{take}
 use Prim.Native.Nat.{ℕ}
 use Rattle.theory.specs.Charts.{Loop}
 use Rattle.theory.specs.Standing.{Loops}
 use Rattle.theory.specs.Events.{Call, restart}
 use Rattle.report.specs.declared.Verdict.the-variants.{Accepted}
 use Rattle.report.specs.Numbers.{four, verdictNumbers, writtenNumbers, removedNumbers, togetherNumbers, followedNumbers}
-use Rattle.report.specs.Numbers.{wayNumbers}
+use Rattle.report.specs.Numbers.{wayNumbers, extractedNumbers}
 use Rattle.bits.specs.Bits.{Bytes}
 use Rattle.chart.specs.Bodies.{WellFormed}
 use Rattle.chart.specs.Standing.{StandsFor}
@@ -19,6 +20,7 @@ use Rattle.elimination.specs.Together.{togetherOf}
 use Rattle.follower.specs.declared.Follower.{Follower}
 use Rattle.follower.specs.States.{Formed, noState}
 use Rattle.follower.specs.WayAnswers.{StatePasses}
+use Rattle.extraction.specs.ExtractionAnswers.{LabelsPass}
 use Rattle.verdict.specs.Verdicts.{chartIn, labelsIn, verdictOf}
 use Rattle.promises.specs.Numbered.{Telling}
 use Rattle.promises.specs.Accepted.{Holds}
@@ -29,6 +31,7 @@ use Rattle.promises.specs.Follower.{CallByNumbers, LentByNumbers}
 use Rattle.promises.specs.VertexTransitions.{HandedBack}
 use Rattle.promises.specs.ShortestWay.{WayByNumbers, OfShortestWays}
 use Rattle.promises.specs.LoopsTogether.{TogetherByNumbers, InEveryOrder, EmptyDone, OverAccepted}
+use Rattle.promises.specs.Extraction.{ExtractionGives, ExtractionByNumbers, OfStartTexts, OfWritten, GivesG}
 use Rattle.promises.specs.Demand2.{WritesTheChart, LabellingPasses, RelationPasses}
 use Rattle.promises.specs.Demand3.{Demand3}
 
@@ -47,7 +50,7 @@ pub record Promises : Type 1 where
   pub restart-by-value : (b : List ℕ) → CallByNumbers b noState restart
   -- of each call no two answers have the same four numbers
   pub numbers-tell : Telling verdictNumbers × Telling writtenNumbers × Telling removedNumbers × Telling togetherNumbers
-      × Telling followedNumbers × Telling wayNumbers
+      × Telling followedNumbers × Telling wayNumbers × Telling extractedNumbers
   -- the transitions of a vertex, as a part of the caller's chart bytes
   pub vertex-transitions : (b : List ℕ) → Bytes b → (v : ℕ) → HandedBack b v
   -- DEMAND 2: which files are accepted, and with which counts
@@ -72,3 +75,10 @@ pub record Promises : Type 1 where
   pub together-accepted : (f : List ℕ) → Bytes f → (v t l : ℕ) → verdictOf f ≡ Accepted v t l
       → (X : Loops) → ((u m : ℕ) → X u m → Loop (stepsIn f) u m)
       → (standing : List ℕ) → StandsFor (chartIn f) (labelsIn f) standing X → OverAccepted f X standing
+  -- C-14, an expression for a drawn chart: each answer; of a chart and a labelling that pass, the start's text; the table that is
+  -- written, which is what stands at the beginning of the lent bytes t after n of them were written; and G
+  pub expression-of-chart : (b labels out : List ℕ) → Bytes labels → ExtractionByNumbers b labels out
+  pub start-texts : (b labels : List ℕ) → Bytes labels → LabelsPass b labels → OfStartTexts b labels
+  pub written-tables : (b labels out : List ℕ) → Bytes labels → (n : ℕ) (t : List ℕ)
+      → ExtractionGives b labels out (four 0 n 0 0) t → OfWritten b labels (take n t)
+  pub gives-G : GivesG

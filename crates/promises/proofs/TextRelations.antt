@@ -1,48 +1,51 @@
--- Of a chart and a labelling that pass: the start has a text, the table of it passes 10 to 12 where it has at most 127 nodes, and some
--- relation passes 40 to 45 against the chart.
-use mathlib.Core.Path.{_≡_, sym, _∙_}
-use mathlib.Core.Logic.{_↔_, Iff·rfl}
+-- For every table that has the start's text in post-order some relation passes 40 to 45 against the chart.
+use mathlib.Core.Path.{_≡_, sym, ap, _∙_}
+use mathlib.Core.Logic.{_↔_, Iff·rfl, by-cases}
 use mathlib.Core.Bool.{Bool, true}
-use mathlib.Core.List.{List}
-use Prim.Native.Nat.{ℕ, suc, _*_, _≤_, _<_}
+use mathlib.Core.List.{List, _++_}
+use Prim.Native.Nat.{ℕ, zero, suc, _+_, _-_, _*_, _≤_, _<_}
+use native.Mathlib.Decide.{decLt}
 use native.Mathlib.Omega.{arith}
-use lib.ListN.{length}
-use Rattle.theory.specs.Checks as checks
+use lib.ListN.{length, getD, List·getD-append}
+use lib.Seq.{getD-append-add}
 use Rattle.theory.specs.Expressions.{Expr}
 use Rattle.theory.specs.Systems.{Bisimulation}
 use Rattle.theory.specs.Tests.{Decides}
 use Rattle.theory.specs.Texts.{Text}
-use Rattle.theory.specs.PostOrders.{PostOrder, size, rootFrom, Acting}
+use Rattle.theory.specs.PostOrders.{PostOrder}
 use Rattle.theory.specs.Remains.{RemainsAt}
-use Rattle.theory.proofs.Checks.{passed-same}
 use Rattle.theory.proofs.Tests.{test-of, decides-dec}
 use Rattle.theory.proofs.Systems.{same-relation}
-use Rattle.theory.proofs.PostOrders.{root-size}
-use Rattle.theory.proofs.Texts.{has-text, text-acting}
 use Rattle.theory.proofs.TextCharts.{table-bisimulation}
 use Rattle.theory.proofs.Decisions.{remains-at?, remains-at-below}
 use Rattle.report.specs.declared.Stage.the-variants.{Passed}
+use Rattle.bits.specs.Bits.{Bytes, setBytes}
+use Rattle.bits.proofs.SetBytes.{set-length, set-bytes}
 use Rattle.chart.specs.Bodies.{verticesOf, startOf, WellFormed}
-use Rattle.chart.specs.Steps.{StepsOf, transitionsOf}
 use Rattle.chart.specs.Systems.{systemOf, drawnOf}
-use Rattle.chart.proofs.Relations.{indexed-member, drawn-steps, drawn-formed}
-use Rattle.expression.specs.Table.{node, count, checkOf}
+use Rattle.chart.proofs.Relations.{indexed-member, drawn-formed}
+use Rattle.expression.specs.Table.{node, count}
 use Rattle.expression.specs.Body.{bodyOf, chartTransitions}
-use Rattle.expression.specs.NodeBytes.{tableOf}
 use Rattle.expression.proofs.Chart.{body-vertices, body-start, body-transitions}
-use Rattle.expression.proofs.NodeBytes.{Positive, table-count, table-post, table-passes}
 use Rattle.bisimulation.specs.Relations.{rowsFrom, relationOf}
 use Rattle.bisimulation.specs.Answers.{Related}
 use Rattle.bisimulation.proofs.RowLaws.{rows-length, rows-test, related-row, related-column}
 use Rattle.bisimulation.proofs.Relations.{same-steps, relation-iff-bisimulation}
 
-module _ (body labels : List ℕ) (W : WellFormed body) where
-  -- the start has a text
-  pub start-text : checks.Passed (StepsOf body labels) → (e : Expr) × Text (drawnOf body labels) (startOf body) 0 e
-  start-text p =
-      has-text (drawnOf body labels) (drawn-formed body labels W) (passed-same (drawn-steps body labels) p) (startOf body)
-      (omega (arith, W .header .start-low))
+-- the rows of a test are bytes
+rows-bytes : (t : ℕ → ℕ → Bool) (u n : ℕ) → Bytes (rowsFrom t u n)
+unfolding rowsFrom
+rows-bytes t u zero k = omega arith
+rows-bytes t u (suc n) k =
+    by-cases (decLt k 16)
+    (λ h. rw (List·getD-append (setBytes (t u)) (rowsFrom t (suc u) n) 0 k (omega (arith, set-length (t u)))) (set-bytes (t u) k))
+    (λ h.
+    let e : length (setBytes (t u)) + (k - 16) ≡ k = omega (arith, set-length (t u)) in
+    rw (sym (ap (λ (j : ℕ). getD (setBytes (t u) ++ rowsFrom t (suc u) n) j 0) e)
+    ∙ getD-append-add (setBytes (t u)) (rowsFrom t (suc u) n) (k - 16) 0)
+    (rows-bytes t (suc u) n (k - 16)))
 
+module _ (body labels : List ℕ) (W : WellFormed body) where
   -- a table s that has the start's text in post-order
   module _ (s : List ℕ) (e : Expr) (root : ℕ) (last : count s ≡ suc root) (post : PostOrder (node s) 0 e root)
       (t : Text (drawnOf body labels) (startOf body) 0 e) where
@@ -89,24 +92,14 @@ module _ (body labels : List ℕ) (W : WellFormed body) where
         (same-steps (λ u a w. Iff·rfl) (indexed-member body) (suc root) (startOf body) (RemainsAt (drawnOf body labels) (verticesOf body) (node s) (suc root))
         (table-bisimulation (drawnOf body labels) (verticesOf body) (drawn-formed body labels W) (W .header .start-high) (node s) e root post t)))
 
-    some-relation : (r : List ℕ) × (relationOf (bodyOf s) body r ≡ Passed)
+    pub some-relation : (r : List ℕ) × Bytes r × (relationOf (bodyOf s) body r ≡ Passed)
+    unfolding relation
     some-relation = (
       relation,
+      rows-bytes test 0 (suc (suc root)),
       relation-iff-bisimulation (bodyOf s) body relation .1 (
         long ∙ omega (arith, body-vertices s),
         (λ u v q. let b = inside u v (bits u v .1 q) in (omega (arith, body-vertices s), b .1)),
         matched,
       ),
     )
-
-  -- THE TABLE OF THE START'S TEXT
-  module _ (e : Expr) (t : Text (drawnOf body labels) (startOf body) 0 e) where
-    text-positive : Acting Positive e
-    text-positive = text-acting (drawnOf body labels) Positive (λ i h. W .each i h .action-low) t
-
-    pub text-passes : size e ≤ 127 → checkOf (tableOf e) ≡ Passed
-    text-passes = table-passes e text-positive
-
-    pub text-related : (r : List ℕ) × (relationOf (bodyOf (tableOf e)) body r ≡ Passed)
-    text-related =
-        some-relation (tableOf e) e (rootFrom 0 e) (table-count e ∙ omega (arith, root-size 0 e)) (table-post e text-positive) t
