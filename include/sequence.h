@@ -19,7 +19,7 @@ extern "C" {
  * looked at again: a call takes or answers something else, or a length such as SEQ_STATE is another. It goes
  * up by one where something is only added. So a program for this version or a later one up to 199 may say
  * `#if SEQ_VERSION / 100 != 1`, `#error`. */
-#define SEQ_VERSION 100
+#define SEQ_VERSION 101
 
 /* n is the number of a refusal, as documents 01 and 02 have it, and p, q, r its places, unused ones 0.
  * Where nothing is refused n is 0 and p, q, r are what the call says below. */
@@ -67,12 +67,15 @@ typedef enum seq_refusal {
     SEQ_OUTPUT_TOO_SHORT = 54,
     SEQ_NO_WAY = 55,
     SEQ_LOOP_LIST = 56,
-    SEQ_START_INSIDE = 57
+    SEQ_START_INSIDE = 57,
+    /* The chart or the labelling, where an expression is to be written for them. */
+    SEQ_TOO_MANY_NODES = 58
 } seq_refusal;
 
-/* The longest yard file, and the longest chart of an expression, in bytes. */
+/* The longest yard file, the longest chart of an expression, and the longest expression, in bytes. */
 #define SEQ_LONGEST_FILE 43536
 #define SEQ_LONGEST_CHART 32772
+#define SEQ_LONGEST_EXPRESSION 508
 
 /* The length of a follower's state, in bytes. */
 #define SEQ_STATE 16
@@ -87,6 +90,7 @@ typedef enum seq_refusal {
  * it), rounded up to a KiB. The caller's own come on top. */
 #define SEQ_STACK_CHECK 34816
 #define SEQ_STACK_WRITE_CHART 8192
+#define SEQ_STACK_WRITE_EXPRESSION 16384
 #define SEQ_STACK_REMOVE 5120
 #define SEQ_STACK_REMOVE_TOGETHER 5120
 #define SEQ_STACK_RESTART 2048
@@ -148,6 +152,24 @@ seq_numbers seq_check(const uint8_t *file, size_t file_len);
  * out is changed.
  * The nodes are only read. SEQ_LONGEST_CHART bytes are enough for every expression. */
 seq_numbers seq_write_chart(const uint8_t *nodes, size_t nodes_len, uint8_t *out, size_t out_len);
+
+/* Writes an expression for a chart, in the form of the body of a record of kind 1, to the beginning of
+ * out. chart and labels are the bodies of records of kinds 2 and 3. Some relation of this expression and
+ * the chart passes checks 40 to 45 of seq_check.
+ *
+ * The expression is the text of the start back to the end. The text of a vertex back to another is a
+ * star: its left is the sum over the vertex's entries of the action, times the target's text back to the
+ * vertex unless that is the target; its right is the sum over the vertex's branches of the action, times
+ * the target's text back to the other unless that is the target. Sums nest to the left, in the order of
+ * the transitions; a sum of nothing is deadlock, a sum of one is that one. The nodes of a left operand
+ * come first, then those of the right one, then the node that has the two.
+ *
+ * Written: n 0, p its length in bytes, q and r 0. The bytes of out past that length are kept.
+ * Refused: n 20 or 21 for the chart; n 30 to 35 for the labels; n 58 where the expression would have more
+ * than 127 nodes; n 54 where out is too short, p the bytes needed. No byte of out is changed.
+ * The chart and the labels are only read. SEQ_LONGEST_EXPRESSION bytes are enough for every chart. */
+seq_numbers seq_write_expression(const uint8_t *chart, size_t chart_len, const uint8_t *labels, size_t labels_len,
+                                 uint8_t *out, size_t out_len);
 
 /* Takes out a loop: the transitions that leave vertex with the label level, its entries. chart and
  * labels are the bodies of records of kinds 2 and 3. standing has a byte for each transition, 1 where

@@ -5,6 +5,7 @@ int main()
 {
     const seq_numbers checked = seq_check(nullptr, 0);
     const seq_numbers written = seq_write_chart(nullptr, 0, nullptr, 0);
+    const seq_numbers drawn = seq_write_expression(nullptr, 0, nullptr, 0, nullptr, 0);
     const seq_numbers removed = seq_remove(nullptr, 0, nullptr, 0, 1, 1, nullptr, 0);
     const seq_numbers together = seq_remove_together(nullptr, 0, nullptr, 0, nullptr, 0, nullptr, 0);
     const seq_numbers restarted = seq_restart(nullptr, 0, nullptr, 0);
@@ -13,7 +14,7 @@ int main()
     const uint8_t file[] = {1, 0, SEQ_EXPRESSION, 0, 7};
     const seq_slice body = seq_body(file, sizeof file, SEQ_EXPRESSION);
     const bool read = checked.n == SEQ_RECORD_INCOMPLETE && checked.p == 1 && written.n == SEQ_EXPRESSION_LENGTH;
-    const bool left = removed.n == SEQ_CHART_HEAD && together.n == SEQ_CHART_HEAD;
+    const bool left = drawn.n == SEQ_CHART_HEAD && removed.n == SEQ_CHART_HEAD && together.n == SEQ_CHART_HEAD;
     const bool lent = restarted.n == SEQ_CHART_HEAD && followed.n == SEQ_CHART_HEAD && way.n == SEQ_CHART_HEAD;
     const bool found = body.bytes == file + 4 && body.len == 1 && SEQ_VERSION / 100 == 1;
     return read && left && lent && found ? 0 : 1;

@@ -1,6 +1,6 @@
 /* Runs the C library: document 01's starred cases of the check, of the expression's chart, of the
- * removal and of the follower, loops taken out together, shortest ways, the bodies of a file, empty slices,
- * the limits, and lent buffers of each length that matters.
+ * removal and of the follower, expressions for charts, loops taken out together, shortest ways, the bodies
+ * of a file, empty slices, the limits, and lent buffers of each length that matters.
  * Prints what is wrong and, last, the count of cases; exits with 1 where something is wrong. */
 #define _DEFAULT_SOURCE
 #include "sequence.h"
@@ -306,14 +306,28 @@ static void empty_slices(void)
     static const uint8_t no_transition[4] = {2, 1, 0, 0};
     static const uint8_t at_end[SEQ_STATE] = {1};
     static const uint8_t at_start[SEQ_STATE] = {8};
+    static const uint8_t deadlocks[12] = {0, 0, 0, 0, 0, 0, 0, 0, 4, 0, 0, 1};
     uint8_t standing[2] = {1, 1};
+    uint8_t nodes[12];
     uint8_t byte = 0xAB;
-    cases += 28;
+    cases += 35;
     expect_numbers("no file", seq_check(NULL, 0), numbers(2, 1, 0, 0));
     expect_numbers("a file of no bytes", seq_check(&byte, 0), numbers(2, 1, 0, 0));
     expect_numbers("no nodes, no output", seq_write_chart(NULL, 0, NULL, 0), numbers(10, 0, 0, 0));
     expect_numbers("no nodes", seq_write_chart(NULL, 0, &byte, 1), numbers(10, 0, 0, 0));
     expect_numbers("no output", seq_write_chart(G_NODES, 12, NULL, 0), numbers(54, 20, 0, 0));
+    expect_numbers("nothing to write for", seq_write_expression(NULL, 0, NULL, 0, NULL, 0), numbers(20, 0, 0, 0));
+    expect_numbers("nothing to write for, a byte", seq_write_expression(NULL, 0, NULL, 0, &byte, 1),
+                   numbers(20, 0, 0, 0));
+    expect_numbers("no labels to write by", seq_write_expression(G + 20, 12, NULL, 0, NULL, 0), numbers(30, 0, 0, 0));
+    expect_numbers("labels of no bytes", seq_write_expression(G + 20, 12, &byte, 0, NULL, 0), numbers(30, 0, 0, 0));
+    expect_numbers("no room for nodes", seq_write_expression(G + 20, 12, G + G_LABELS, 2, NULL, 0),
+                   numbers(54, 12, 0, 0));
+    expect_numbers("no transition, no room", seq_write_expression(no_transition, 4, NULL, 0, NULL, 0),
+                   numbers(54, 12, 0, 0));
+    expect_numbers("no transition to write for", seq_write_expression(no_transition, 4, NULL, 0, nodes, 12),
+                   numbers(0, 12, 0, 0));
+    expect_bytes("written with no labels", nodes, deadlocks, 12);
     expect_numbers("no chart", seq_remove(NULL, 0, NULL, 0, 1, 1, NULL, 0), numbers(20, 0, 0, 0));
     expect_numbers("no chart, a standing byte", seq_remove(NULL, 0, NULL, 0, 1, 1, &byte, 1), numbers(20, 0, 0, 0));
     expect_numbers("no labels", seq_remove(G_CHART, 20, NULL, 0, 1, 1, &byte, 1), numbers(30, 0, 0, 0));
@@ -533,6 +547,391 @@ static void refused_nodes(void)
     for (size_t len = 0; len < sizeof G_NODES; len++)
         if (len % 4 != 0)
             expect_chart("a part of a node", G_NODES, len, 40, numbers(10, len, 0, 0), NULL);
+}
+
+/* Expressions for charts. */
+
+typedef struct drawn {
+    body chart;
+    body labels;
+} drawn;
+
+static const seq_numbers TOO_MANY = {58, 0, 0, 0};
+
+static void set_drawn(drawn *lent, const uint8_t *chart, size_t chart_len, const uint8_t *labels, size_t labels_len)
+{
+    set_body(&lent->chart, chart, chart_len);
+    set_body(&lent->labels, labels, labels_len);
+}
+
+/* One call into so many lent bytes; its answer and every lent byte are held to what is wanted. */
+static void expect_expression(const char *name, const drawn *lent, size_t out_len, seq_numbers want,
+                              const uint8_t *nodes)
+{
+    size_t chart_len = lent->chart.len;
+    size_t labels_len = lent->labels.len;
+    const uint8_t *chart = copy_before(file_end, lent->chart.bytes, chart_len);
+    const uint8_t *labels = copy_before(labels_end, lent->labels.bytes, labels_len);
+    uint8_t *out = lend_out(out_len, want, nodes);
+    cases++;
+    expect_numbers(name, seq_write_expression(chart, chart_len, labels, labels_len, out, out_len), want);
+    expect_bytes(name, chart, lent->chart.bytes, chart_len);
+    expect_bytes(name, labels, lent->labels.bytes, labels_len);
+    expect_bytes(name, out, out_left, out_len);
+}
+
+/* Refused, whether there is room or not. */
+static void expect_no_expression(const char *name, const drawn *lent, seq_numbers want)
+{
+    expect_expression(name, lent, 0, want, NULL);
+    expect_expression(name, lent, 3, want, NULL);
+    expect_expression(name, lent, SEQ_LONGEST_EXPRESSION, want, NULL);
+    expect_expression(name, lent, SEQ_LONGEST_CHART, want, NULL);
+}
+
+/* Vertices of the expression's chart, and of the chart, that are not told apart so far. */
+static uint8_t alike[128][128];
+
+/* Whether a transition of the one is matched by one that leaves v in the other. */
+static int is_matched(const uint8_t *one, const body *other, unsigned v, int turned)
+{
+    for (size_t at = 4; at < other->len; at += 4) {
+        const uint8_t *step = other->bytes + at;
+        if (step[0] == v && step[1] == one[1] && (turned ? alike[step[2]][one[2]] : alike[one[2]][step[2]]))
+            return 1;
+    }
+    return 0;
+}
+
+static int are_matched(const body *one, unsigned u, const body *other, unsigned v, int turned)
+{
+    for (size_t at = 4; at < one->len; at += 4)
+        if (one->bytes[at] == u && !is_matched(one->bytes + at, other, v, turned))
+            return 0;
+    return 1;
+}
+
+/* Puts the largest relation of the two: pairs go until all that are left match each other. */
+static void put_largest_relation(body *relation, const body *expression, const body *chart)
+{
+    unsigned rows = expression->bytes[0];
+    unsigned columns = chart->bytes[0];
+    int gone = 1;
+    for (unsigned u = 0; u < rows; u++)
+        for (unsigned v = 0; v < columns; v++)
+            alike[u][v] = (u == 0) == (v == 0);
+    while (gone) {
+        gone = 0;
+        for (unsigned u = 0; u < rows; u++)
+            for (unsigned v = 0; v < columns; v++)
+                if (alike[u][v] &&
+                    !(are_matched(expression, u, chart, v, 0) && are_matched(chart, v, expression, u, 1))) {
+                    alike[u][v] = 0;
+                    gone = 1;
+                }
+    }
+    relation->len = 0;
+    for (unsigned u = 0; u < rows; u++) {
+        put_row(relation, 0, 0);
+        for (unsigned v = 0; v < columns; v++)
+            relation->bytes[16 * u + v / 8] |= (uint8_t)(alike[u][v] << v % 8);
+    }
+}
+
+/* The expression has a chart, and with the largest relation its file is accepted. */
+static void expect_accepted(const char *name, const drawn *lent, const uint8_t *nodes, size_t len)
+{
+    static yard yard;
+    static body chart;
+    set_body(&yard.bodies[NODES], nodes, len);
+    yard.bodies[CHART] = lent->chart;
+    yard.bodies[LABELS] = lent->labels;
+    seq_numbers written = seq_write_chart(nodes, len, chart.bytes, sizeof chart.bytes);
+    chart.len = (size_t)written.p;
+    cases++;
+    expect_numbers(name, written, numbers(0, written.p, 0, 0));
+    if (written.n != 0)
+        return;
+    put_largest_relation(&yard.bodies[RELATION], &chart, &lent->chart);
+    size_t file_len = write_file(&yard);
+    seq_numbers said = seq_check(file_bytes, file_len);
+    cases++;
+    expect_numbers(name, said, numbers(0, lent->chart.bytes[0], lent->labels.len, said.r));
+}
+
+/* An expression of so many bytes, into bytes enough and too few. */
+static void expect_expression_in_each_buffer(const char *name, const drawn *lent, const uint8_t *nodes, size_t len)
+{
+    seq_numbers written = numbers(0, len, 0, 0);
+    seq_numbers needed = numbers(54, len, 0, 0);
+    expect_expression(name, lent, 0, needed, nodes);
+    expect_expression(name, lent, 1, needed, nodes);
+    expect_expression(name, lent, len - 4, needed, nodes);
+    expect_expression(name, lent, len - 1, needed, nodes);
+    expect_expression(name, lent, len, written, nodes);
+    expect_expression(name, lent, len + 1, written, nodes);
+    expect_expression(name, lent, SEQ_LONGEST_EXPRESSION, written, nodes);
+    expect_expression(name, lent, SEQ_LONGEST_CHART, written, nodes);
+    expect_accepted(name, lent, nodes, len);
+}
+
+static void expression_of_g(void)
+{
+    static drawn lent;
+    set_drawn(&lent, G + 20, 12, G + G_LABELS, 2);
+    expect_expression_in_each_buffer("G's chart", &lent, G_NODES, sizeof G_NODES);
+    lent.labels.bytes[0] = 255;
+    expect_expression_in_each_buffer("G's chart, level 255", &lent, G_NODES, sizeof G_NODES);
+}
+
+/* Sums of nothing. */
+static void expressions_of_deadlocks(void)
+{
+    static drawn lent;
+    static const uint8_t both[] = {0, 0, 0, 0, 0, 0, 0, 0, 4, 0, 0, 1};
+    static const uint8_t for_ever[] = {1, 9, 0, 0, 0, 0, 0, 0, 4, 0, 0, 1};
+    static const uint8_t to_end[] = {0, 0, 0, 0, 1, 9, 0, 0, 4, 0, 0, 1};
+    static const uint8_t after_one[] = {0, 0, 0, 0, 1, 9, 0, 0, 0, 0, 0, 0, 0, 0, 0, 0,
+                                        4, 0, 2, 3, 3, 0, 1, 4, 4, 0, 0, 5};
+    set_drawn(&lent, (uint8_t[]){2, 1, 0, 0}, 4, (uint8_t[]){0}, 0);
+    expect_expression_in_each_buffer("no transition", &lent, both, sizeof both);
+    set_drawn(&lent, (uint8_t[]){2, 1, 1, 0, 1, 9, 1, 0}, 8, (uint8_t[]){1}, 1);
+    expect_expression_in_each_buffer("no branch", &lent, for_ever, sizeof for_ever);
+    set_drawn(&lent, (uint8_t[]){2, 1, 1, 0, 1, 9, 0, 0}, 8, (uint8_t[]){0}, 1);
+    expect_expression_in_each_buffer("no entry", &lent, to_end, sizeof to_end);
+    set_drawn(&lent, (uint8_t[]){3, 1, 1, 0, 1, 9, 2, 0}, 8, (uint8_t[]){0}, 1);
+    expect_expression_in_each_buffer("to a deadlock", &lent, after_one, sizeof after_one);
+}
+
+/* Entries of all levels are one sum, branches the other, each in transition order. */
+static void expression_of_sums(void)
+{
+    static drawn lent;
+    static const uint8_t chart[] = {2, 1, 6, 0, 1, 1, 0, 0, 1, 2, 1, 0, 1, 3, 0, 0,
+                                    1, 4, 1, 0, 1, 5, 1, 0, 1, 6, 0, 0};
+    static const uint8_t nodes[] = {1, 2, 0, 0, 1, 4, 0, 0, 2, 0, 0, 1, 1, 5, 0, 0, 2, 0, 2, 3, 1, 1, 0, 0,
+                                    1, 3, 0, 0, 2, 0, 5, 6, 1, 6, 0, 0, 2, 0, 7, 8, 4, 0, 4, 9};
+    set_drawn(&lent, chart, sizeof chart, (uint8_t[]){0, 3, 0, 1, 2, 0}, 6);
+    expect_expression_in_each_buffer("three entries, three branches", &lent, nodes, sizeof nodes);
+}
+
+/* The text of vertex 2 back to 1; from a start at 2, also the one back to the end. */
+static void expressions_of_two_loops(void)
+{
+    static drawn lent;
+    static const uint8_t from_1[] = {1, 1, 0, 0, 1, 1, 0, 0, 1, 2, 0, 0, 4, 0, 1, 2, 3, 0, 0, 3, 1, 3, 0, 0,
+                                     4, 0, 4, 5};
+    static const uint8_t from_2[] = {1, 1, 0, 0, 1, 2, 0, 0, 1, 1, 0, 0, 1, 1, 0, 0, 1, 2, 0, 0, 4, 0, 3, 4,
+                                     3, 0, 2, 5, 1, 3, 0, 0, 4, 0, 6, 7, 3, 0, 1, 8, 4, 0, 0, 9};
+    set_drawn(&lent, TWO_LOOPS, 20, TWO_LEVELS, 4);
+    expect_expression_in_each_buffer("a loop inside", &lent, from_1, sizeof from_1);
+    lent.chart.bytes[1] = 2;
+    expect_expression_in_each_buffer("a start inside", &lent, from_2, sizeof from_2);
+}
+
+/* The chart and the labels of examples/weighbridge.yard: each ramp has its own weighing. */
+static void expression_of_the_weighbridge(void)
+{
+    static drawn lent;
+    static const uint8_t chart[] = {5, 1, 7, 0, 1, 1, 2, 0, 1, 2, 2, 0, 1, 7, 0, 0,
+                                    2, 3, 2, 0, 2, 4, 3, 0, 3, 5, 4, 0, 4, 6, 1, 0};
+    static const uint8_t nodes[] = {
+        1, 1, 0, 0,                                                 /* north */
+        1, 3, 0, 0, 1, 4, 0, 0,                                     /* weigh, steady */
+        0, 0, 0, 0, 1, 5, 0, 0,                                     /* ticket */
+        0, 0, 0, 0, 1, 6, 0, 0, 4, 0, 5, 6,                         /* off */
+        3, 0, 4, 7, 4, 0, 3, 8, 3, 0, 2, 9, 4, 0, 1, 10, 3, 0, 0, 11,
+        1, 2, 0, 0,                                                 /* south */
+        1, 3, 0, 0, 1, 4, 0, 0, 0, 0, 0, 0, 1, 5, 0, 0, 0, 0, 0, 0, 1, 6, 0, 0, 4, 0, 18, 19,
+        3, 0, 17, 20, 4, 0, 16, 21, 3, 0, 15, 22, 4, 0, 14, 23, 3, 0, 13, 24,
+        2, 0, 12, 25, 1, 7, 0, 0, 4, 0, 26, 27,                     /* close */
+    };
+    set_drawn(&lent, chart, sizeof chart, (uint8_t[]){2, 2, 0, 1, 0, 0, 0}, 7);
+    expect_expression_in_each_buffer("the weighbridge", &lent, nodes, sizeof nodes);
+}
+
+/* The next node, whose number is the answer. */
+static unsigned put_node(body *nodes, unsigned kind, unsigned action, unsigned left, unsigned right)
+{
+    put_four(nodes, kind, action, left, right);
+    return (unsigned)(nodes->len / 4 - 1);
+}
+
+/* The sum of so many actions from one on; of none, deadlock. */
+static unsigned put_sum(body *nodes, unsigned first, unsigned count)
+{
+    unsigned sum = count == 0 ? put_node(nodes, 0, 0, 0, 0) : put_node(nodes, 1, first, 0, 0);
+    for (unsigned i = 1; i < count; i++)
+        sum = put_node(nodes, 2, 0, sum, put_node(nodes, 1, first + i, 0, 0));
+    return sum;
+}
+
+/* Where the table that is put has 127 nodes at most, it is written, else refused by 58. */
+static void expect_table(const char *name, const drawn *lent, const body *nodes)
+{
+    if (nodes->len <= SEQ_LONGEST_EXPRESSION)
+        expect_expression_in_each_buffer(name, lent, nodes->bytes, nodes->len);
+    else
+        expect_no_expression(name, lent, TOO_MANY);
+}
+
+/* Vertex 1 alone, its first transitions entries, all others branches: 127 nodes of 64 transitions of both
+ * kinds, or of 63 of one kind and a deadlock; of one transition more there are 129. */
+static void longest_sums(void)
+{
+    static drawn lent;
+    static body nodes;
+    for (unsigned all = 62; all <= 66; all++) {
+        for (unsigned entries = 0; entries <= all; entries++) {
+            lent.chart.len = lent.labels.len = nodes.len = 0;
+            put_four(&lent.chart, 2, 1, all, 0);
+            for (unsigned i = 0; i < all; i++) {
+                put_four(&lent.chart, 1, i + 1, i < entries, 0);
+                put(&lent.labels, (uint8_t)(i < entries ? 1 + i % 3 : 0));
+            }
+            unsigned left = put_sum(&nodes, 1, entries);
+            unsigned right = put_sum(&nodes, 1 + entries, all - entries);
+            put_node(&nodes, 4, 0, left, right);
+            expect_table("entries and branches of one vertex", &lent, &nodes);
+        }
+    }
+}
+
+/* A line: each vertex leads to the one below it, vertex v by action v. 32 of them are 127 nodes. */
+static void lines_of_vertices(void)
+{
+    static drawn lent;
+    static body nodes;
+    for (unsigned count = 1; count < 128; count++) {
+        lent.chart.len = lent.labels.len = nodes.len = 0;
+        put_four(&lent.chart, count + 1, count, count, 0);
+        for (unsigned v = 1; v <= count; v++) {
+            put_four(&lent.chart, v, v, v - 1, 0);
+            put(&lent.labels, 0);
+        }
+        for (unsigned v = count; v > 0; v--) {
+            put_node(&nodes, 0, 0, 0, 0);
+            put_node(&nodes, 1, v, 0, 0);
+        }
+        unsigned star = put_node(&nodes, 4, 0, 2 * count - 2, 2 * count - 1);
+        for (unsigned at = 2 * count - 2; at > 0; at -= 2) {
+            unsigned product = put_node(&nodes, 3, 0, at - 1, star);
+            star = put_node(&nodes, 4, 0, at - 2, product);
+        }
+        expect_table("a line of vertices", &lent, &nodes);
+    }
+}
+
+/* Loops in each other: vertex v enters the next one by action v, and leads to the one below it by action
+ * 128. Transitions 2 v - 2 and 2 v - 1 are those of v; the last vertex has no entry. */
+static void put_nest(drawn *lent, unsigned count)
+{
+    lent->chart.len = lent->labels.len = 0;
+    put_four(&lent->chart, count + 1, 1, 2 * count - 1, 0);
+    for (unsigned v = 1; v <= count; v++) {
+        if (v < count) {
+            put_four(&lent->chart, v, v, v + 1, 0);
+            put(&lent->labels, (uint8_t)(count - v));
+        }
+        put_four(&lent->chart, v, 128, v - 1, 0);
+        put(&lent->labels, 0);
+    }
+}
+
+/* 32 loops in each other, the last one empty, are 127 nodes. */
+static void nests_of_loops(void)
+{
+    static drawn lent;
+    static body nodes;
+    for (unsigned count = 1; count < 128; count++) {
+        nodes.len = 0;
+        put_nest(&lent, count);
+        for (unsigned v = 1; v < count; v++)
+            put_node(&nodes, 1, v, 0, 0);
+        unsigned left = put_node(&nodes, 0, 0, 0, 0);
+        for (unsigned v = count; v > 0; v--) {
+            unsigned right = put_node(&nodes, 1, 128, 0, 0);
+            left = put_node(&nodes, 4, 0, left, right);
+            if (v > 1)
+                left = put_node(&nodes, 3, 0, v - 2, left);
+        }
+        expect_table("loops in each other", &lent, &nodes);
+    }
+}
+
+/* Two branches from each vertex to the next: of V 128 the text has more than 2 to the power of 127 nodes.
+ * Of the full chart it is longer still. */
+static void texts_far_too_long(void)
+{
+    static drawn lent;
+    for (unsigned count = 5; count < 128; count++) {
+        lent.chart.len = lent.labels.len = 0;
+        put_four(&lent.chart, count + 1, count, 2 * count, 0);
+        for (unsigned v = 1; v <= count; v++) {
+            put_four(&lent.chart, v, 1, v - 1, 0);
+            put_four(&lent.chart, v, 2, v - 1, 0);
+        }
+        lent.labels.len = 2 * count;
+        memset(lent.labels.bytes, 0, lent.labels.len);
+        expect_no_expression("two ways from each vertex", &lent, TOO_MANY);
+    }
+    lent.chart.len = lent.labels.len = 0;
+    put_full_chart(&lent.chart, &lent.labels);
+    expect_no_expression("the full chart", &lent, TOO_MANY);
+    lent.labels.bytes[8191] = 255;
+    expect_no_expression("last label 255", &lent, numbers(35, 1, 128, 127));
+    lent.chart.bytes[4 + 4 * 8191 + 3] = 1;
+    expect_no_expression("a last byte in the last transition", &lent, numbers(21, 8191, 0, 0));
+}
+
+/* Each refusal of a chart or of labels whose text would be short. */
+static void refused_drawings(void)
+{
+    static drawn lent;
+    set_drawn(&lent, TWO_LOOPS, 20, (uint8_t[]){1, 0, 1, 0}, 4);
+    expect_no_expression("equal levels inside each other", &lent, numbers(35, 1, 1, 2));
+    set_drawn(&lent, TWO_LOOPS, 20, (uint8_t[]){2, 2, 1, 0}, 4);
+    expect_no_expression("the end inside", &lent, numbers(34, 1, 2, 0));
+    set_drawn(&lent, TWO_LOOPS, 20, (uint8_t[]){2, 1, 1, 0}, 4);
+    expect_no_expression("no way back", &lent, numbers(33, 1, 1, 0));
+    set_drawn(&lent, TWO_LOOPS, 20, (uint8_t[]){2, 0, 0, 0}, 4);
+    expect_no_expression("branches go round", &lent, numbers(32, 2, 0, 0));
+    set_drawn(&lent, TWO_LOOPS, 20, TWO_LEVELS, 4);
+    lent.chart.bytes[4 + 2] = 1;
+    expect_no_expression("vertex 2 is not reached", &lent, numbers(31, 2, 0, 0));
+    for (lent.labels.len = 0; lent.labels.len < 9; lent.labels.len++)
+        if (lent.labels.len != 4)
+            expect_no_expression("labels too many or too few", &lent, numbers(30, lent.labels.len, 0, 0));
+    lent.labels.len = 4 + 65536 / 4;
+    expect_no_expression("labels far too many", &lent, numbers(30, 16388, 0, 0));
+    lent.chart.bytes[4 + 4 * 1] = 0;
+    expect_no_expression("transition 1 of the end", &lent, numbers(21, 1, 0, 0));
+    for (lent.chart.len = 0; lent.chart.len < 20; lent.chart.len++)
+        expect_no_expression("a beginning of the chart", &lent, numbers(20, 0, 0, 0));
+}
+
+/* Of a text that is too long, one fault more each time: each comes before those that are there already. */
+static void refused_before_58(void)
+{
+    static drawn lent;
+    put_nest(&lent, 33);
+    expect_no_expression("33 loops in each other", &lent, TOO_MANY);
+    lent.labels.bytes[0] = 31;
+    expect_no_expression("level 31 at vertex 1", &lent, numbers(35, 1, 31, 2));
+    lent.labels.bytes[1] = 31;
+    expect_no_expression("such, and the end inside", &lent, numbers(34, 1, 31, 0));
+    lent.labels.bytes[1] = 1;
+    expect_no_expression("35, and 33 at a lower level", &lent, numbers(33, 1, 1, 0));
+    lent.labels.bytes[2 * 32 - 2] = 0;
+    expect_no_expression("such, and 32 and 33 go round", &lent, numbers(32, 32, 0, 0));
+    lent.chart.bytes[4 + 2] = 1;
+    expect_no_expression("such, and 2 is not reached", &lent, numbers(31, 2, 0, 0));
+    lent.labels.len++;
+    expect_no_expression("such, and a label more", &lent, numbers(30, 66, 0, 0));
+    lent.chart.bytes[4 + 4 * 64 + 3] = 1;
+    expect_no_expression("such, and a last byte in the last transition", &lent, numbers(21, 64, 0, 0));
+    lent.chart.bytes[1] = 0;
+    expect_no_expression("such, and start 0", &lent, numbers(20, 0, 0, 0));
 }
 
 /* Removals. */
@@ -1440,6 +1839,17 @@ int main(void)
     chart_of_sums();
     chart_of_ones_for_ever();
     refused_nodes();
+    expression_of_g();
+    expressions_of_deadlocks();
+    expression_of_sums();
+    expressions_of_two_loops();
+    expression_of_the_weighbridge();
+    longest_sums();
+    lines_of_vertices();
+    nests_of_loops();
+    texts_far_too_long();
+    refused_drawings();
+    refused_before_58();
     starred_removals();
     entries_one_by_one();
     refused_removals();

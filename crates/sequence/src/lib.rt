@@ -3,15 +3,17 @@
 ghost use mathlib.Core.Path.{_≡_};
 ghost use lib.ListN.{length};
 ghost use Rattle.report.specs.Numbers.{verdictNumbers, writtenNumbers, removedNumbers, togetherNumbers};
-ghost use Rattle.report.specs.Numbers.{followedNumbers, wayNumbers};
+ghost use Rattle.report.specs.Numbers.{followedNumbers, wayNumbers, extractedNumbers};
 ghost use Rattle.verdict.specs.Verdicts.{verdictOf};
 ghost use Rattle.expression.specs.Body.{writtenOf, bufferOf};
+ghost use Rattle.extraction.specs.Extractions.{extractedOf, extractedLeft};
 ghost use Rattle.elimination.specs.Removals.{removalOf, leftOf};
 ghost use Rattle.elimination.specs.Together.{togetherOf, leftTogether};
 ghost use Rattle.theory.specs.Events.{restart, event};
 ghost use Rattle.follower.specs.Calls.{lentOn};
 ghost use Rattle.follower.specs.Ways.{wayOf, wayLeft};
 use report::Numbers;
+use report::extracted_numbers;
 use report::followed_numbers;
 use report::removed_numbers;
 use report::together_numbers;
@@ -35,6 +37,17 @@ pub extern "C" fn seq_write_chart(nodes: &[u8], out: &mut [u8]) -> Numbers
         × (now (out .exit) ≡ bufferOf (now (nodes .entry)) (now (out .entry))) ⌝ }
 {
     written_numbers(expression::write_chart(nodes, out))
+}
+
+// Writes the expression of a chart with these labels into the lent bytes, those past it being kept: 0 with
+// its length in bytes, or the refusal, which changes none of them.
+#[no_mangle]
+pub extern "C" fn seq_write_expression(chart: &[u8], labels: &[u8], out: &mut [u8]) -> Numbers
+    ensures { λ r. ⌜ (r ≡ extractedNumbers
+        (extractedOf (now (chart .entry)) (now (labels .entry)) (length (now (out .entry)))))
+        × (now (out .exit) ≡ extractedLeft (now (chart .entry)) (now (labels .entry)) (now (out .entry))) ⌝ }
+{
+    extracted_numbers(extraction::write_expression(chart, labels, out))
 }
 
 // Takes out the loop (vertex, level) of a chart with these labels, where the transitions whose byte
