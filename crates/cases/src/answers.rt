@@ -129,8 +129,8 @@ pub(crate) fn append_bytes(text: &mut [u8], at: usize, bytes: &[u8]) -> usize
     end
 }
 
-// The length of a shortest way, and the bytes that were lent for it.
-pub(crate) fn write_way(text: &mut [u8], numbers: Numbers, lent: &[u8]) -> usize
+// The length of what was written, and the bytes that were lent for it.
+pub(crate) fn write_lent(text: &mut [u8], numbers: Numbers, lent: &[u8]) -> usize
     ensures { λ r. ⌜ Counts r (now (text .exit)) ⌝ }
 {
     let at = write_length(text, b" length", numbers);

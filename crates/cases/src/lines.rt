@@ -21,7 +21,7 @@ use crate::words::place;
 pub(crate) fn word_of(line: &[u8]) -> usize {
     place(
         b"nodes chart labels relation file more repeat at row cut keep case standing state #  \
-        check leaving take together left write way restart event by ",
+        check leaving take together left write expression way restart event by ",
         part(line, 0, find(line, 0, b' ')),
     )
 }
@@ -54,11 +54,13 @@ pub(crate) const LEFT: usize = 20;
 
 pub(crate) const WRITE: usize = 21;
 
-pub(crate) const WAY: usize = 22;
+pub(crate) const EXPRESSION: usize = 22;
 
-pub(crate) const RESTART: usize = 23;
+pub(crate) const WAY: usize = 23;
 
-pub(crate) const BY: usize = 25;
+pub(crate) const RESTART: usize = 24;
+
+pub(crate) const BY: usize = 26;
 
 // The offset at which a line's bytes begin: a record's name replaces all that there is.
 fn offset(word: usize, size: usize, n: usize) -> usize

@@ -16,8 +16,8 @@ use answers::at_most;
 use answers::write_done;
 use answers::write_followed;
 use answers::write_length;
+use answers::write_lent;
 use answers::write_verdict;
-use answers::write_way;
 use follower::Follower;
 use follower::Moved;
 use libc::STDIN_FILENO;
@@ -25,6 +25,7 @@ use libc::STDOUT_FILENO;
 use lines::BY;
 use lines::CASE;
 use lines::CHECK;
+use lines::EXPRESSION;
 use lines::LEAVING;
 use lines::LEFT;
 use lines::RESTART;
@@ -171,18 +172,52 @@ fn followed(chart: &[u8], state: &mut [u8], word: usize, line: &[u8]) -> Numbers
     report::followed_numbers(follower::event_lent(chart, state, action(line)))
 }
 
+// Bytes that were written become a record.
+fn replace(bytes: &mut [u8], k: usize, written: &[u8]) {
+    let mut text = io::buffer();
+    let end = append_bytes(&mut text, 0, written);
+    prepare(bytes, k, k, &text[..end]);
+}
+
 // Writes the expression's chart to as many bytes of some room as a line says; where it is written, it becomes the chart.
 fn written(bytes: &mut [u8], room: &mut [u8], line: &[u8]) -> Numbers {
     let lent = at_most(room, number(after(line, 1)));
     let nodes = body(bytes, NODES);
     let numbers = report::written_numbers(expression::write_chart(nodes, &mut room[..lent]));
     if numbers.n == 0 {
-        let mut text = io::buffer();
         let length = at_most(room, numbers.p as usize);
-        let end = append_bytes(&mut text, 0, &room[..length]);
-        prepare(bytes, CHART, CHART, &text[..end]);
+        replace(bytes, CHART, &room[..length]);
     }
     numbers
+}
+
+// Writes the expression of the chart and its labels into some bytes; where it is written, it becomes the nodes.
+fn extracted(bytes: &mut [u8], out: &mut [u8]) -> Numbers {
+    let chart = body(bytes, CHART);
+    let labels = body(bytes, LABELS);
+    let numbers = report::extracted_numbers(extraction::write_expression(chart, labels, out));
+    if numbers.n == 0 {
+        let length = at_most(out, numbers.p as usize);
+        replace(bytes, NODES, &out[..length]);
+    }
+    numbers
+}
+
+// The answer, and what the bytes become.
+fn extracted_into(out: &mut [u8], bytes: &mut [u8], text: &mut [u8]) -> usize
+    ensures { λ r. ⌜ Counts r (now (text .exit)) ⌝ }
+{
+    let numbers = extracted(bytes, out);
+    write_lent(text, numbers, out)
+}
+
+// The same, into as many bytes as a line says, each of them EE.
+fn extraction_of(bytes: &mut [u8], line: &[u8], text: &mut [u8]) -> usize
+    ensures { λ r. ⌜ Counts r (now (text .exit)) ⌝ }
+{
+    let mut room = [0xEEu8; 520];
+    let lent = at_most(&room, number(after(line, 1)));
+    extracted_into(&mut room[..lent], bytes, text)
 }
 
 // The shortest way from a state into some bytes: the answer, and what they become.
@@ -190,7 +225,7 @@ fn way_into(out: &mut [u8], chart: &[u8], state: &[u8], text: &mut [u8]) -> usiz
     ensures { λ r. ⌜ Counts r (now (text .exit)) ⌝ }
 {
     let numbers = report::way_numbers(follower::shortest_way(chart, state, out));
-    write_way(text, numbers, out)
+    write_lent(text, numbers, out)
 }
 
 // The same, into as many bytes as a line says, each of them EE.
@@ -225,6 +260,9 @@ fn answer(bytes: &mut [u8], lent: &mut [u8], word: usize, line: &[u8], text: &mu
     if word == WRITE {
         let numbers = written(bytes, text, line);
         return write_length(text, b" written", numbers);
+    }
+    if word == EXPRESSION {
+        return extraction_of(bytes, line, text);
     }
     if word == WAY {
         return way(body(bytes, CHART), lent, line, text);
