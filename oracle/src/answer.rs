@@ -5,7 +5,7 @@ use std::fmt;
 /// is 0 and the places hold:
 ///
 /// * check: V, T and the number of loops;
-/// * expression's chart: its length in bytes, 0, 0;
+/// * expression's chart, or an expression of a chart: its length in bytes, 0, 0;
 /// * removal of a loop, or of several together ("done"): 0, 0, 0;
 /// * follower: the word (`TAKEN` or `NOT_POSSIBLE`), 1 where the end is in the
 ///   set, the number of different actions offered;

@@ -5,6 +5,7 @@
 //! Nothing here is shared with `plain` but the answer's form.
 mod chart;
 mod expression;
+mod extraction;
 mod follower;
 mod labelling;
 mod records;
@@ -17,6 +18,7 @@ mod way;
 
 pub use chart::transitions_leaving;
 pub use expression::write_chart;
+pub use extraction::write_expression;
 pub use follower::{event, event_lent, restart, restart_lent};
 pub use removal::remove;
 pub use together::remove_together;
@@ -30,7 +32,7 @@ use table::Table;
 
 type Refusal = Answer;
 
-/// The tables of a check.
+/// The tables of a check; an expression for a chart needs some of them.
 struct Room {
     onward: Table<u8>,
     rows: Table<u16>,
@@ -50,19 +52,23 @@ impl Room {
 }
 
 thread_local! {
-    // Lent to each check, which then has nothing to clear but what it reads.
+    // Lent to each call, which then has nothing to clear but what it reads.
     static ROOM: RefCell<Room> = const { RefCell::new(Room::new()) };
+}
+
+#[inline]
+fn with_room(call: impl FnOnce(&mut Room) -> Result<Answer, Refusal>) -> Result<Answer, Refusal> {
+    ROOM.with_borrow_mut(|room| {
+        if cfg!(debug_assertions) {
+            *room = Room::new();
+        }
+        call(room)
+    })
 }
 
 /// The verdict on a yard file.
 pub fn check(file: &[u8]) -> Answer {
-    let verdict = ROOM.with_borrow_mut(|room| {
-        if cfg!(debug_assertions) {
-            *room = Room::new();
-        }
-        verdict(file, room)
-    });
-    verdict.unwrap_or_else(|refusal| refusal)
+    with_room(|room| verdict(file, room)).unwrap_or_else(|refusal| refusal)
 }
 
 fn verdict(file: &[u8], room: &mut Room) -> Result<Answer, Refusal> {

@@ -3,7 +3,7 @@ use super::table::Table;
 use super::{refused, Refusal};
 use crate::Answer;
 
-const MOST_NODES: usize = 127;
+pub(super) const MOST_NODES: usize = 127;
 
 pub(super) const DEADLOCK: u8 = 0;
 pub(super) const ACTION: u8 = 1;

@@ -2,6 +2,7 @@
 
 mod chart;
 mod expression;
+mod extraction;
 mod follower;
 mod labelling;
 mod loop_chart;
@@ -16,6 +17,7 @@ pub use expression::{
     climb, expression_chart, read_nodes, remainders, residual, steps, tree, write_chart, Expr,
     Form, Node, Target,
 };
+pub use extraction::write_expression;
 pub use follower::{event, event_lent, restart, restart_lent, RulesFollower, State};
 pub use labelling::{
     check_labelling, is_layered_loop_witness, loop_body, loops, read_labels, Loop,
