@@ -1,6 +1,6 @@
 //! Files at the limits, each hard on one stage of the check, and removals of one
-//! loop and of several together, calls of the follower and ways to the end at
-//! the limits. All files are accepted.
+//! loop and of several together, calls of the follower, ways to the end and
+//! expressions of charts at the limits. All files are accepted.
 use super::charts::chart_of;
 use super::expressions::{self, Shape};
 use super::lists::Call;
@@ -263,14 +263,18 @@ pub fn deepest_nest() -> Yard {
 /// each of which has an entry to the lowest. So the body of each has all lower
 /// ones in it, and all their loops.
 pub fn chain_of_loops() -> Yard {
+    yard(&forever(1), 128, 1, nested_loops(127))
+}
+
+fn nested_loops(top: usize) -> Labelled {
     let mut labelled = Labelled::new();
-    for v in 1..=127 {
+    for v in 1..=top {
         labelled.insert(step(v, 1, 1), v as u8);
-        if v < 127 {
+        if v < top {
             labelled.insert(step(v, 1, v + 1), 0);
         }
     }
-    yard(&forever(1), 128, 1, labelled)
+    labelled
 }
 
 /// Check 35 where the loops of one vertex can't be told by what all of them
@@ -688,4 +692,102 @@ pub fn way_calls() -> Vec<(&'static str, WayCall)> {
         (name, WayCall { chart, state })
     })
     .to_vec()
+}
+
+/// A labelled chart whose expression is asked for.
+#[derive(Clone, Debug)]
+pub struct Extraction {
+    pub chart: Vec<u8>,
+    pub labels: Vec<u8>,
+}
+
+impl Extraction {
+    fn of(vertices: usize, start: usize, labelled: Labelled) -> Extraction {
+        let chart = chart_of(vertices, start, labelled.keys().copied().collect());
+        Extraction {
+            chart: chart.bytes(),
+            labels: labelled.into_values().collect(),
+        }
+    }
+}
+
+/// Each of `top` vertices goes round by itself and branches to the next lower
+/// one, so that each text stands in the right part of another. Two leaves a
+/// vertex.
+pub fn texts_in_a_line(top: usize) -> Extraction {
+    let mut labelled = Labelled::new();
+    for v in 1..=top {
+        labelled.insert(step(v, 1, v), 1);
+        labelled.insert(step(v, 2, v - 1), 0);
+    }
+    Extraction::of(top + 1, top, labelled)
+}
+
+/// Each of `top` vertices has an entry to the next higher one, the last to
+/// itself, and branches to the next lower one, so that each text stands in the
+/// left part of another. Two leaves a vertex.
+pub fn texts_in_a_nest(top: usize) -> Extraction {
+    let mut labelled = Labelled::new();
+    for v in 1..=top {
+        labelled.insert(step(v, 1, (v + 1).min(top)), (top + 1 - v) as u8);
+        labelled.insert(step(v, 2, v - 1), 0);
+    }
+    Extraction::of(top + 1, 1, labelled)
+}
+
+/// A chain of `top` nested loops, and a vertex before it that goes round by
+/// itself. The text has 2^(top + 1) leaves, and few transitions.
+pub fn texts_of_nested_loops(top: usize) -> Extraction {
+    let mut labelled = nested_loops(top);
+    labelled.insert(step(top + 1, 1, 1), 0);
+    labelled.insert(step(top + 1, 1, top + 1), 1);
+    Extraction::of(top + 2, top + 1, labelled)
+}
+
+/// Each of `top` vertices has two branches to the next lower one: the text has
+/// 3 x (2^top - 1) leaves.
+pub fn texts_in_diamonds(top: usize) -> Extraction {
+    let mut labelled = Labelled::new();
+    for v in 1..=top {
+        labelled.insert(step(v, 1, v - 1), 0);
+        labelled.insert(step(v, 2, v - 1), 0);
+    }
+    Extraction::of(top + 1, top, labelled)
+}
+
+/// One vertex that goes round by itself and has the other branches, so many
+/// leaves in all.
+pub fn one_text(leaves: u8) -> Extraction {
+    let mut labelled = Labelled::from([(step(1, 1, 1), 1)]);
+    labelled.extend((2..=leaves).map(|action| (step(1, action, 0), 0)));
+    Extraction::of(2, 1, labelled)
+}
+
+/// Expressions of charts, each with its name: tables of 127 nodes, those of the
+/// line, of the nest and of nested loops with 32 texts, the most that there can
+/// be; a small one; and texts that are too long, by one leaf, by far more than
+/// could be written, or because the chart is too large.
+pub fn extractions() -> Vec<(&'static str, Extraction)> {
+    let small = Extraction {
+        chart: weighbridge(),
+        labels: vec![2, 2, 0, 1, 0, 0, 0],
+    };
+    let layers = dense_layers();
+    let large = Extraction {
+        chart: layers.chart,
+        labels: layers.labelling,
+    };
+    vec![
+        ("line", texts_in_a_line(32)),
+        ("nest", texts_in_a_nest(32)),
+        ("nested loops", texts_of_nested_loops(5)),
+        ("one text", one_text(64)),
+        ("small", small),
+        ("refused 58 line", texts_in_a_line(127)),
+        ("refused 58 nest", texts_in_a_nest(127)),
+        ("refused 58 nested loops", texts_of_nested_loops(31)),
+        ("refused 58 diamonds", texts_in_diamonds(32)),
+        ("refused 58 one text", one_text(65)),
+        ("refused 58 dense layers", large),
+    ]
 }

@@ -136,6 +136,12 @@ pub fn some_state(rng: &mut Rng, chart: &[u8]) -> Vec<u8> {
     state
 }
 
+/// What lent bytes hold before a call.
+pub fn pattern(length: usize) -> Vec<u8> {
+    let mut rng = Rng::new(length as u64);
+    (0..length).map(|_| rng.word() as u8).collect()
+}
+
 /// What the first record holds, as far as the file goes.
 pub fn first_body(file: &[u8]) -> &[u8] {
     let Some((length, rest)) = file.split_first_chunk::<2>() else {

@@ -2,7 +2,7 @@
 //! lent bytes of every length that matters. Where there are too many sets for
 //! the plain one, against its definition alone.
 #![allow(dead_code)]
-use crate::common::{chart, damage_chart, files, g, long_state, some_state, Seen};
+use crate::common::{chart, damage_chart, files, g, long_state, pattern, some_state, Seen};
 use oracle::gen::charts::{renamed, shuffled};
 use oracle::gen::lists::{events, Call};
 use oracle::gen::{self, Rng};
@@ -35,12 +35,6 @@ fn state_of(vertices: &[usize]) -> State {
 
 fn has(state: State, vertex: usize) -> bool {
     u128::from_le_bytes(state) >> vertex & 1 == 1
-}
-
-/// What lent bytes hold before a call.
-fn pattern(length: usize) -> Vec<u8> {
-    let mut rng = Rng::new(length as u64);
-    (0..length).map(|_| rng.word() as u8).collect()
 }
 
 /// A chart, and for each vertex how many transitions the end is away, where it
