@@ -43,6 +43,14 @@ extern "C" {
         out: *mut u8,
         out_len: usize,
     ) -> Answer;
+    fn seq_write_expression(
+        chart: *const u8,
+        chart_len: usize,
+        labels: *const u8,
+        labels_len: usize,
+        out: *mut u8,
+        out_len: usize,
+    ) -> Answer;
 }
 
 #[cfg(library)]
@@ -126,6 +134,21 @@ pub fn shortest_way(chart: &[u8], state: &[u8], out: &mut [u8]) -> Answer {
     }
 }
 
+#[cfg(library)]
+pub fn write_expression(chart: &[u8], labels: &[u8], out: &mut [u8]) -> Answer {
+    // SAFETY: as for a shortest way.
+    unsafe {
+        seq_write_expression(
+            chart.as_ptr(),
+            chart.len(),
+            labels.as_ptr(),
+            labels.len(),
+            out.as_mut_ptr(),
+            out.len(),
+        )
+    }
+}
+
 #[cfg(not(library))]
 pub fn check(_: &[u8]) -> Answer {
     panic!("{MISSING}")
@@ -158,6 +181,11 @@ pub fn event(_: &[u8], _: &mut [u8], _: u8) -> Answer {
 
 #[cfg(not(library))]
 pub fn shortest_way(_: &[u8], _: &[u8], _: &mut [u8]) -> Answer {
+    panic!("{MISSING}")
+}
+
+#[cfg(not(library))]
+pub fn write_expression(_: &[u8], _: &[u8], _: &mut [u8]) -> Answer {
     panic!("{MISSING}")
 }
 
