@@ -68,6 +68,39 @@ static void shortest_way(void) {
     seq_shortest_way(chart.bytes, chart.len, state, sizeof state, out, sizeof out);
 }
 
+/* A chart of 127 vertices, each of which branches to the next lower one. In a nest each has an entry to the next higher one
+ * too, the last to itself; else each has one to itself. Each text then stands in another, in its left part or in its right
+ * one, and the writing of the start's goes as deep as it can before it is refused 58. */
+enum { TOP = 127, STEPS = 2 * TOP };
+static uint8_t drawn[4 + 4 * STEPS];
+static uint8_t drawn_labels[STEPS];
+
+static void draw(int nest) {
+    drawn[0] = TOP + 1;
+    drawn[1] = nest ? 1 : TOP;
+    drawn[2] = STEPS;
+    for (int v = 1; v <= TOP; v++) {
+        uint8_t *entry = drawn + 4 + 8 * (v - 1);
+        uint8_t *branch = entry + 4;
+        entry[0] = branch[0] = (uint8_t)v;
+        entry[1] = 1;
+        entry[2] = (uint8_t)(nest && v < TOP ? v + 1 : v);
+        branch[1] = 2;
+        branch[2] = (uint8_t)(v - 1);
+        drawn_labels[2 * (v - 1)] = (uint8_t)(nest ? TOP + 1 - v : 1);
+    }
+}
+
+/* The file's expression, then those of the deepest texts. */
+static void write_expression(void) {
+    static uint8_t out[4 * 127];
+    seq_write_expression(chart.bytes, chart.len, labels.bytes, labels.len, out, sizeof out);
+    for (int nest = 0; nest <= 1; nest++) {
+        draw(nest);
+        seq_write_expression(drawn, sizeof drawn, drawn_labels, sizeof drawn_labels, out, sizeof out);
+    }
+}
+
 typedef struct measured {
     const char *name;
     void (*call)(void);
@@ -83,6 +116,7 @@ static measured calls[] = {
     {"seq_restart", restart, SEQ_STACK_RESTART, 0},
     {"seq_event", event, SEQ_STACK_EVENT, 0},
     {"seq_shortest_way", shortest_way, SEQ_STACK_SHORTEST_WAY, 0},
+    {"seq_write_expression", write_expression, SEQ_STACK_WRITE_EXPRESSION, 0},
 };
 enum { CALLS = sizeof calls / sizeof calls[0] };
 

@@ -1,21 +1,22 @@
-//! The proved check, removals, follower and shortest way against the second checker's fast ones, on
-//! the same bytes in the same run.
+//! The proved check, removals, follower, shortest way and expression of a chart against the second
+//! checker's fast ones, on the same bytes in the same run.
 //!
 //! * `bench times` prints a row for each kind of file: microseconds a check of both, and their ratio
 //!   over several runs; `bench removals` such a row for each removal, `bench together` for each list
-//!   of loops, `bench follower` for each call of the follower, `bench way` for each shortest way.
+//!   of loops, `bench follower` for each call of the follower, `bench way` for each shortest way,
+//!   `bench expressions` for charts and labels of the mixed corpus and for each expression of a chart.
 //! * `bench singly` prints such a row for each list of loops: the proved call for the list, and the
 //!   proved removals of its loops one after another.
 //! * `bench stages` prints such a row for the files of the mixed corpus that have the same number in
 //!   their answer.
 //! * `bench calls WHO FILE COUNT` makes the call of a file COUNT times, for callgrind to count, or
 //!   those of a corpus one after another.
-//! * `bench write FOLDER` writes the named files, removals, lists of loops, calls of the follower and
-//!   shortest ways, and the corpora.
+//! * `bench write FOLDER` writes the named files, removals, lists of loops, calls of the follower,
+//!   shortest ways and expressions of charts, and the corpora.
 use oracle::gen::lists;
-use oracle::gen::worst::{self, FollowerCall, Removal, TogetherCall, WayCall};
+use oracle::gen::worst::{self, Extraction, FollowerCall, Removal, TogetherCall, WayCall};
 use oracle::gen::{self, Yard};
-use oracle::{fast, Answer};
+use oracle::{fast, plain, Answer};
 use std::collections::BTreeMap;
 use std::hint::black_box;
 use std::time::Instant;
@@ -47,10 +48,17 @@ enum Call {
         /// The bytes that are lent.
         out: [u8; LONGEST_WAY],
     },
+    Extract {
+        made: Extraction,
+        /// The bytes that are lent.
+        out: [u8; LONGEST_EXPRESSION],
+    },
 }
 
 /// No list of events is longer.
 const LONGEST_WAY: usize = 127;
+/// No expression body is longer.
+const LONGEST_EXPRESSION: usize = 508;
 
 impl Call {
     fn remove(removal: Removal) -> Call {
@@ -74,10 +82,16 @@ impl Call {
         Call::Way { made, out }
     }
 
+    fn extract(made: Extraction) -> Call {
+        let out = [0; LONGEST_EXPRESSION];
+        Call::Extract { made, out }
+    }
+
     /// The bytes of a file; those of a removal are its vertex, its level, and its chart, labels and
     /// standing bytes; those of a list of loops are its length, the list, and its chart, labels and
     /// standing bytes; those of a call of the follower are 1 for an event or 0, its action, the state
-    /// and the chart; those of a shortest way are the state, the lent bytes and the chart.
+    /// and the chart; those of a shortest way are the state, the lent bytes and the chart; those of an
+    /// expression of a chart are a file with the lent bytes as its first record, and an empty last one.
     fn bytes(&self) -> Vec<u8> {
         match self {
             Call::Check(file) => file.clone(),
@@ -110,6 +124,15 @@ impl Call {
                 [&call[..], state, &made.chart].concat()
             }
             Call::Way { made, out } => [&made.state[..], out, &made.chart].concat(),
+            Call::Extract { made, out } => {
+                let yard = Yard {
+                    expression: out.to_vec(),
+                    chart: made.chart.clone(),
+                    labelling: made.labels.clone(),
+                    relation: Vec::new(),
+                };
+                yard.file()
+            }
         }
     }
 
@@ -118,10 +141,12 @@ impl Call {
         let file = fs::read(path).expect("a file");
         let call = match path.rsplit('.').next() {
             Some("corpus") => return files_of(&file).map(Call::Check).collect(),
+            Some("expressions") => return files_of(&file).filter_map(Call::read_extract).collect(),
             Some("removal") => Call::read_removal(&file),
             Some("together") => Call::read_together(&file),
             Some("follower") => Call::read_follow(&file),
             Some("way") => Call::read_way(&file),
+            Some("expression") => Call::read_extract(file).expect("four records"),
             _ => Call::Check(file),
         };
         vec![call]
@@ -145,6 +170,15 @@ impl Call {
             chart: rest[LONGEST_WAY..].to_vec(),
             state: state.try_into().expect("16 bytes"),
         })
+    }
+
+    /// The chart and the labels of a yard file; none where its records are refused.
+    fn read_extract(file: Vec<u8>) -> Option<Call> {
+        let [_, chart, labels, _] = plain::read_records(&file).ok()?;
+        Some(Call::extract(Extraction {
+            chart: chart.to_vec(),
+            labels: labels.to_vec(),
+        }))
     }
 
     fn read_removal(file: &[u8]) -> Call {
@@ -205,6 +239,7 @@ struct Side {
     restart: fn(&[u8], &mut [u8]) -> Answer,
     event: fn(&[u8], &mut [u8], u8) -> Answer,
     shortest_way: fn(&[u8], &[u8], &mut [u8]) -> Answer,
+    write_expression: fn(&[u8], &[u8], &mut [u8]) -> Answer,
 }
 
 const PROVED: Side = Side {
@@ -215,6 +250,7 @@ const PROVED: Side = Side {
     restart: proved::restart,
     event: proved::event,
     shortest_way: proved::shortest_way,
+    write_expression: proved::write_expression,
 };
 const RUST: Side = Side {
     name: "Rust",
@@ -224,6 +260,7 @@ const RUST: Side = Side {
     restart: fast::restart_lent,
     event: fast::event_lent,
     shortest_way: fast::shortest_way,
+    write_expression: fast::write_expression,
 };
 
 const SINGLY: Side = Side {
@@ -242,8 +279,8 @@ fn singly(chart: &[u8], labels: &[u8], loops: &[u8], standing: &mut [u8]) -> Ans
 
 impl Side {
     /// Before a removal its entries are set to 1 again, before a list of loops the standing bytes and
-    /// before a call of the follower its state are what they were, before a shortest way the lent
-    /// bytes are 0.
+    /// before a call of the follower its state are what they were, before a shortest way and an
+    /// expression of a chart the lent bytes are 0.
     fn answer(self, call: &mut Call) -> Answer {
         match call {
             Call::Check(file) => (self.check)(file),
@@ -269,6 +306,10 @@ impl Side {
             Call::Way { made, out } => {
                 *out = [0; LONGEST_WAY];
                 (self.shortest_way)(&made.chart, &made.state, out)
+            }
+            Call::Extract { made, out } => {
+                *out = [0; LONGEST_EXPRESSION];
+                (self.write_expression)(&made.chart, &made.labels, out)
             }
         }
     }
@@ -375,6 +416,10 @@ fn ways() -> Vec<(String, Call)> {
     calls_of(worst::way_calls(), Call::way)
 }
 
+fn extractions() -> Vec<(String, Call)> {
+    calls_of(worst::extractions(), Call::extract)
+}
+
 fn calls_of<T>(named: Vec<(&str, T)>, call: fn(T) -> Call) -> Vec<(String, Call)> {
     let named = named.into_iter();
     let call = |(name, what): (&str, T)| (name.replace(' ', "-"), call(what));
@@ -468,6 +513,17 @@ fn corpora() -> Vec<(String, Vec<Call>)> {
     ]
 }
 
+/// The charts and labels of the mixed corpus, all of them and those whose expression is written.
+fn mixed_extractions() -> Vec<(String, Vec<Call>)> {
+    let all = || mixed().filter_map(Call::read_extract);
+    let is_written = |call: &mut Call| !RUST.answer(call).is_refusal();
+    let written = all().filter_map(|mut call| is_written(&mut call).then_some(call));
+    vec![
+        ("mixed-corpus".into(), all().collect()),
+        ("written".into(), written.collect()),
+    ]
+}
+
 fn stages() {
     head("files", RUST);
     let mut by_number: BTreeMap<u64, Vec<Call>> = BTreeMap::new();
@@ -488,6 +544,14 @@ fn times() {
     rows(named(), RUST);
 }
 
+fn expressions() {
+    head("charts", RUST);
+    for (name, mut calls) in mixed_extractions() {
+        row(&name, &mut calls, RUST);
+    }
+    rows(extractions(), RUST);
+}
+
 fn calls(who: &str, path: &str, count: u32) {
     let side = match who {
         "proved" => PROVED,
@@ -504,15 +568,18 @@ fn write(folder: &str) {
         ("together", lists_of_loops()),
         ("follower", follower_calls()),
         ("way", ways()),
+        ("expression", extractions()),
     ] {
         for (name, call) in calls {
             let path = format!("{folder}/{name}.{extension}");
             fs::write(path, call.bytes()).expect("the file is written");
         }
     }
-    for (name, calls) in corpora() {
-        let path = format!("{folder}/{name}.corpus");
-        fs::write(path, corpus_of(&calls)).expect("the file is written");
+    for (extension, corpora) in [("corpus", corpora()), ("expressions", mixed_extractions())] {
+        for (name, calls) in corpora {
+            let path = format!("{folder}/{name}.{extension}");
+            fs::write(path, corpus_of(&calls)).expect("the file is written");
+        }
     }
 }
 
@@ -526,12 +593,13 @@ fn main() {
         ["singly"] => table("lists", lists_of_loops(), SINGLY),
         ["follower"] => table("calls", follower_calls(), RUST),
         ["way"] => table("ways", ways(), RUST),
+        ["expressions"] => expressions(),
         ["stages"] => stages(),
         ["calls", who, path, count] => calls(who, path, count.parse().expect("a number")),
         ["write", folder] => write(folder),
         _ => {
             eprintln!(
-                "bench times | removals | together | singly | follower | way | stages | calls WHO FILE COUNT | write FOLDER"
+                "bench times | removals | together | singly | follower | way | expressions | stages | calls WHO FILE COUNT | write FOLDER"
             );
             process::exit(2);
         }
