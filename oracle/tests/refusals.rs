@@ -6,8 +6,9 @@ mod proved;
 mod removals;
 use common::first_body;
 use followers::Follower;
+use oracle::gen::expressions::{post_order, Shape};
 use oracle::gen::lists::Call;
-use oracle::gen::{Yard, CHECK_REFUSALS};
+use oracle::gen::{relations, Yard, CHECK_REFUSALS};
 use oracle::{plain, Answer};
 use std::fs;
 use std::path::Path;
@@ -88,6 +89,11 @@ fn change(file: &mut Vec<u8>, change: &str) {
             file[at..at + new.len()].copy_from_slice(&new);
         }
         "remove" => drop(file.remove(decimal(rest))),
+        "insert" => {
+            let (at, new) = rest.split_once(':').expect("an offset and bytes");
+            let at = decimal(at);
+            file.splice(at..at, repeated(new));
+        }
         "cut" => file.truncate(decimal(rest.strip_prefix("to ").expect("cut to a length"))),
         "append" => file.extend(repeated(rest)),
         _ => panic!("{change} is no change"),
@@ -125,6 +131,18 @@ fn way(file: &[u8], state: &[u8], length: usize) -> (Answer, Vec<u8>) {
         length,
         |out| proved::shortest_way(&chart, state, out),
         |out| plain::shortest_way(&chart, state, out),
+    )
+}
+
+/// The expression for the file's chart and labels, in so many lent bytes.
+fn expression(file: &[u8], length: usize) -> (Answer, Vec<u8>) {
+    let Yard {
+        chart, labelling, ..
+    } = yard(file);
+    lent(
+        length,
+        |out| proved::write_expression(&chart, &labelling, out),
+        |out| plain::write_expression(&chart, &labelling, out),
     )
 }
 
@@ -196,6 +214,7 @@ fn answered(lines: &[String]) -> String {
             Some(("state", rest)) => change(&mut state, rest),
             Some(("lend", lent)) => last = Some(kept(written(decimal(lent)))),
             Some(("way", lent)) => last = Some(kept(way(&file, &state, decimal(lent)))),
+            Some(("expression", lent)) => last = Some(kept(expression(&file, decimal(lent)))),
             _ => change(&mut file, line),
         }
     }
@@ -230,7 +249,7 @@ fn each_number_has_an_example() {
     numbers.dedup();
     assert_eq!(
         numbers,
-        [&CHECK_REFUSALS[..], &[50, 51, 52, 53, 54, 55, 56, 57]].concat()
+        [&CHECK_REFUSALS[..], &[50, 51, 52, 53, 54, 55, 56, 57, 58]].concat()
     );
 }
 
@@ -311,7 +330,7 @@ fn each_cause_of_53_has_an_example() {
 /// 54 for each call that writes to lent bytes.
 #[test]
 fn each_call_that_writes_has_an_example_of_54() {
-    for call in ["lend", "way"] {
+    for call in ["lend", "way", "expression"] {
         assert!(examples_of(54).any(|e| last_is(&e, call)), "{call}");
     }
 }
@@ -328,6 +347,27 @@ fn each_cause_of_56_has_an_example() {
         let such = |length: &usize| (length % 2 == 1) == odd && (*length > 128) == long;
         assert!(lengths.iter().any(such), "odd {odd}, long {long}");
     }
+}
+
+/// 58's chart and labels pass with the page's expression: the sum of the ramps, then what they share, until closing.
+#[test]
+fn an_expression_by_hand_passes() {
+    let example = examples_of(58).next().unwrap();
+    let (call, changes) = example.changes.split_last().unwrap();
+    assert!(call.starts_with("expression "));
+    let mut file = of_the_repository(FILE);
+    changes.iter().for_each(|line| change(&mut file, line));
+    let action = Shape::Action;
+    let ramps = [2, 8, 9, 10, 11, 12, 13, 14, 15].map(action);
+    let ramps = ramps.into_iter().fold(action(1), Shape::sum);
+    let weighed = Shape::product(Shape::star(action(3), action(4)), action(5));
+    let lorry = Shape::product(ramps, Shape::product(weighed, action(6)));
+    let mut yard = yard(&file);
+    yard.expression = post_order(&Shape::star(lorry, action(7)));
+    let expression = plain::expression_chart(&plain::read_nodes(&yard.expression).unwrap());
+    let chart = plain::Chart::read(&yard.chart).unwrap();
+    yard.relation = relations::bytes(&expression, &relations::greatest(&expression, &chart));
+    assert_eq!(proved::check(&yard.file()).n, 0);
 }
 
 /// The transition that the page shows for 44, at the place that the example's line names.
