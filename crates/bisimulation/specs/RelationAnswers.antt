@@ -12,8 +12,7 @@ use Rattle.report.specs.declared.Place.the-variants.{PairEnds, PairExpressionSt
 use Rattle.report.specs.declared.Stage.{Stage}
 use Rattle.report.specs.declared.Stage.the-variants.{Passed, Refused}
 use Rattle.chart.specs.Bodies.{verticesOf, startOf}
-use Rattle.chart.specs.Systems.{systemOf}
-use Rattle.chart.specs.Systems.{indexedOf}
+use Rattle.chart.specs.Systems.{systemOf, indexedOf}
 use Rattle.bisimulation.specs.Answers.{Related, StrayBit, RelationFits, Passes}
 
 -- 40 to 42 pass, (p, q) is related, and every earlier related pair passes

@@ -34,7 +34,7 @@ use Rattle.expression.proofs.NodeBytes.{post-bytes}
 use Rattle.witness.specs.Labellings.{labelledOf}
 use Rattle.witness.proofs.Labellings.{labelled-long, labelled-says, labelled-iff-witness}
 use Rattle.extraction.specs.Extractions.{startText, textWritten, textLeft, extractedOf, extractedLeft}
-use Rattle.extraction.specs.ExtractionAnswers.{LabelsPass, StartText, TableOf, ExtractionAnswer, other-chart, other-labels, too-many, too-short, written}
+use Rattle.extraction.specs.ExtractionAnswers.{DrawnPasses, StartText, IsTable, ExtractionAnswer, other-chart, other-labels, too-many, too-short, written}
 use Rattle.extraction.specs.Writers.{NodesOf, nodes, Wrote}
 use Rattle.extraction.proofs.NodeLaws.{nodes-end}
 use Rattle.extraction.proofs.WriterLaws.{has-written, has-not}
@@ -130,7 +130,7 @@ module _ (b labels out : List ℕ) {s t : List ℕ} {r : ℕ} (W : Wrote (Text (
 -- EACH ANSWER, both ways
 module _ (b labels out : List ℕ) (B : Bytes labels) where
   -- where the labelling passes
-  module _ (P : LabelsPass b labels) where
+  module _ (P : DrawnPasses b labels) where
     passed-number : (n : ℕ) × (labelledOf b labels ≡ labelled.Passed n)
     passed-number = labelled-iff-witness b labels (passes b (P .chart)) B .1 (P .long, P .reaches, P .witness)
 
@@ -149,7 +149,7 @@ module _ (b labels out : List ℕ) (B : Bytes labels) where
       gives-54 : size e ≤ 127 → length out < 4 * size e → ExtractionGives b labels out (Refused (place.OutputLength (4 * size e))) out
       gives-54 h l = gives (rw (fits h) (text-too-short e out l))
 
-      gives-table : {s : List ℕ} → size e ≤ 127 → 4 * size e ≤ length out → TableOf e s
+      gives-table : {s : List ℕ} → size e ≤ 127 → 4 * size e ≤ length out → IsTable e s
           → ExtractionGives b labels out (Length (4 * size e)) (bytesWith s out)
       gives-table h l T = rw (one-table T) (gives (rw (fits h) (text-fits e out l)))
 
@@ -161,7 +161,7 @@ module _ (b labels out : List ℕ) (B : Bytes labels) where
   answer-gives (written P t h l T) = gives-table P t h l T
 
   -- some answer is meant
-  some-text : LabelsPass b labels → (x : Extracted) × (t : List ℕ) × ExtractionAnswer b labels out x t
+  some-text : DrawnPasses b labels → (x : Extracted) × (t : List ℕ) × ExtractionAnswer b labels out x t
   some-text P =
       let (e, t) = start-text b labels P in
       by-cases (decLt 127 (size e))

@@ -32,7 +32,7 @@ pub nodes-same : {nd nd′ : ℕ → Node} {b e : ℕ} (x : Option Expr) → ((k
 nodes-same none f no-node = no-node
 nodes-same (some d) f (nodes p) = nodes (post-same (λ k l h. sym (f k (omega arith))) p)
 
--- nothing is kept of a table by changing it nowhere
+-- a table that is not changed keeps all
 pub kept-all : {n : ℕ} {s : List ℕ} → KeptBelow n s s
 kept-all = record { long = refl; same = λ j h. refl }
 

@@ -18,10 +18,10 @@ use Rattle.chart.proofs.Relations.{steps-formed, drawn-steps, drawn-formed}
 use Rattle.expression.specs.Table.{node, checkOf}
 use Rattle.expression.specs.NodeBytes.{tableOf}
 use Rattle.expression.proofs.NodeBytes.{Positive, table-length, table-post, table-passes, post-bytes}
-use Rattle.extraction.specs.ExtractionAnswers.{LabelsPass, StartText, TableOf}
+use Rattle.extraction.specs.ExtractionAnswers.{DrawnPasses, StartText, IsTable}
 
 module _ (b labels : List ℕ) where
-  pub start-text : LabelsPass b labels → (e : Expr) × StartText b labels e
+  pub start-text : DrawnPasses b labels → (e : Expr) × StartText b labels e
   start-text P =
       has-text (drawnOf b labels) (drawn-formed b labels (P .chart))
       (passed-same (drawn-steps b labels) (passed-iff-witness (steps-formed b labels (P .chart)) (startOf b) (P .reaches) .1 (P .witness)))
@@ -35,9 +35,9 @@ module _ (b labels : List ℕ) where
     text-passes = table-passes e text-positive
 
     -- its table has it in post-order
-    pub text-table : TableOf e (tableOf e)
+    pub text-table : IsTable e (tableOf e)
     text-table = record { long = table-length e; root = rootFrom 0 e; ordered = table-post e text-positive }
 
 -- and there is no other
-pub one-table : {e : Expr} {s : List ℕ} → TableOf e s → s ≡ tableOf e
+pub one-table : {e : Expr} {s : List ℕ} → IsTable e s → s ≡ tableOf e
 one-table {e} {s} T = sym (take-all (4 * size e) s (omega (arith, T .long))) ∙ post-bytes s e (omega (arith, T .long)) (T .ordered)

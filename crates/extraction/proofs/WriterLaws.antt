@@ -28,7 +28,7 @@ use Rattle.chart.proofs.Order.{at-low, at-high, span-of, begins-range}
 use Rattle.chart.proofs.Rows.{looked-up, part-byte, part-leaves, beside-long, beside-byte}
 use Rattle.expression.specs.Table.{parse, node}
 use Rattle.witness.specs.Given.{Given}
-use Rattle.extraction.specs.Writers.{halfOf, LabelIn, Room, KeptBelow, Put, NodesOf, no-node, followed, Timed, Added, Wrote, WholeSum}
+use Rattle.extraction.specs.Writers.{halfOf, LabelIn, NodeRoom, KeptBelow, Put, NodesOf, no-node, followed, Timed, Added, Wrote, WholeSum}
 use Rattle.extraction.proofs.NodeLaws.{sizeOf, nodes-end, nodes-same, kept-all, kept-both, leaf-put, dead-put, join}
 
 -- the operator's node that joins what stands to something else: none where nothing stands
@@ -183,7 +183,7 @@ pub record SumAt (b labels : List ℕ) (half : Half) (w back : ℕ) (part marks 
   pub room : at ≤ limit
 
 pub sum-none : {b labels : List ℕ} {half : Half} {w back : ℕ} {part marks : List ℕ} {from count limit : ℕ} {s : List ℕ}
-    → PartOfVertex b labels w part marks from → Room s count limit → count ≤ limit
+    → PartOfVertex b labels w part marks from → NodeRoom s count limit → count ≤ limit
     → SumAt b labels half w back part marks from count limit s s count 0
 sum-none {b} {labels} {half} {w} {back} {from = from} P R l = record {
   vertex = P;

@@ -22,7 +22,7 @@ use Rattle.witness.specs.LabellingAnswers.{Long, Reaches, LabellingAnswer}
 
 module _ (b labels : List ℕ) where
   -- 20, 21 and 30 to 35 pass
-  pub record LabelsPass : Type 0 where
+  pub record DrawnPasses : Type 0 where
     pub chart : WellFormed b
     pub long : Long b labels
     pub reaches : Reaches b labels
@@ -33,7 +33,7 @@ module _ (b labels : List ℕ) where
   StartText e = Text (drawnOf b labels) (startOf b) 0 e
 
 -- s is the body of kind 1 of e: its nodes in post-order, four bytes each, and nothing else
-pub record TableOf (e : Expr) (s : List ℕ) : Type 0 where
+pub record IsTable (e : Expr) (s : List ℕ) : Type 0 where
   pub long : length s ≡ 4 * size e
   pub root : ℕ
   pub ordered : PostOrder (node s) 0 e root
@@ -46,11 +46,11 @@ pub data ExtractionAnswer (b labels out : List ℕ) : Extracted → List ℕ →
   other-labels : {p : Place} → WellFormed b → LabellingAnswer b labels (labelled.Refused p)
       → ExtractionAnswer b labels out (Refused p) out
   -- 58
-  too-many : {e : Expr} → LabelsPass b labels → StartText b labels e → 127 < size e
+  too-many : {e : Expr} → DrawnPasses b labels → StartText b labels e → 127 < size e
       → ExtractionAnswer b labels out TooManyNodes out
   -- 54, with the bytes needed
-  too-short : {e : Expr} → LabelsPass b labels → StartText b labels e → size e ≤ 127 → length out < 4 * size e
+  too-short : {e : Expr} → DrawnPasses b labels → StartText b labels e → size e ≤ 127 → length out < 4 * size e
       → ExtractionAnswer b labels out (Refused (place.OutputLength (4 * size e))) out
   -- the table is written to the beginning, and the bytes past it are kept
-  written : {e : Expr} {s : List ℕ} → LabelsPass b labels → StartText b labels e → size e ≤ 127 → 4 * size e ≤ length out
-      → TableOf e s → ExtractionAnswer b labels out (Length (4 * size e)) (bytesWith s out)
+  written : {e : Expr} {s : List ℕ} → DrawnPasses b labels → StartText b labels e → size e ≤ 127
+      → 4 * size e ≤ length out → IsTable e s → ExtractionAnswer b labels out (Length (4 * size e)) (bytesWith s out)

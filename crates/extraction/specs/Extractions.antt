@@ -1,4 +1,5 @@
--- An expression for a chart with its labelling (document 02, C-14), as tests that run: the answer, and the lent bytes after it.
+-- An expression for a chart with its labelling (document 02, C-14), as tests that run: the answer, and the lent bytes
+-- after it.
 use Prim.Native.Nat.{ℕ, _*_}
 use mathlib.Core.Bool.{cond}
 use mathlib.Core.List.{List}

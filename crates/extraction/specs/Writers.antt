@@ -25,7 +25,7 @@ LabelIn entries label = label ≢ 0
 LabelIn branches label = label ≡ 0
 
 -- the table, and the nodes that may be written: those below `limit`, from `count` on
-pub record Room (s : List ℕ) (count limit : ℕ) : Type 0 where
+pub record NodeRoom (s : List ℕ) (count limit : ℕ) : Type 0 where
   pub long : length s ≡ 508
   pub few : count ≤ 127
   pub within : limit ≤ 127

@@ -33,7 +33,8 @@ fn copy(nodes: &[u8; 508], n: usize, out: &mut [u8])
 // Of a chart and a labelling that pass: 58, 54, or the table.
 fn write_labelled(chart: &[u8], labels: &[u8], begins: &[usize; 129], out: &mut [u8]) -> Extracted
     requires { ⌜ Given (now chart) (now labels) (now begins) ⌝ }
-    ensures { λ r. ⌜ (r ≡ textWritten (startText (now (chart .entry)) (now (labels .entry))) (length (now (out .entry))))
+    ensures { λ r. ⌜ (r ≡ textWritten (startText (now (chart .entry)) (now (labels .entry)))
+        (length (now (out .entry))))
         × (now (out .exit) ≡ textLeft (startText (now (chart .entry)) (now (labels .entry))) (now (out .entry))) ⌝ }
 {
     let mut nodes = [0u8; 508];
@@ -57,14 +58,14 @@ fn write_drawn(chart: &[u8], labels: &[u8], out: &mut [u8]) -> Extracted
         × (now (out .exit) ≡ extractedLeft (now (chart .entry)) (now (labels .entry)) (now (out .entry))) ⌝ }
 {
     let begins = chart::begins(chart);
-    match witness::check(chart, labels, &begins) {
+    match witness::check_all(chart, labels, &begins) {
         Labelled::Refused(place) => Extracted::Refused(place),
         Labelled::Passed(_) => write_labelled(chart, labels, &begins, out),
     }
 }
 
-// Writes the body of kind 1 of the start's text into the lent bytes, those past it being kept. The answer is its length in
-// bytes, or the first refusal of 20, 21, 30 to 35, 58 and 54.
+// Writes the body of kind 1 of the start's text into the lent bytes, those past it being kept. The answer is its length
+// in bytes, or the first refusal of 20, 21, 30 to 35, 58 and 54.
 pub fn write_expression(chart: &[u8], labels: &[u8], out: &mut [u8]) -> Extracted
     ensures { λ r. ⌜ (r ≡ extractedOf (now (chart .entry)) (now (labels .entry)) (length (now (out .entry))))
         × (now (out .exit) ≡ extractedLeft (now (chart .entry)) (now (labels .entry)) (now (out .entry))) ⌝ }

@@ -1,6 +1,6 @@
-// The writer of a text and the writer of a sum, which call each other (document 02, C-14). Nodes are written from `count` on
-// and stay below `limit`: what is still to come after a text is set aside before it is written, so that the number of nodes
-// that are left falls at each call.
+// The writer of a text and the writer of a sum, which call each other (document 02, C-14). Nodes are written from `count`
+// on and stay below `limit`: what is still to come after a text is set aside before it is written. So the number of nodes
+// that are left falls at each call, and a text that is too long is given up after 127 of them.
 use bits::byte;
 ghost use mathlib.Core.Path.{_≡_};
 ghost use mathlib.Core.Bool.{true};
@@ -12,7 +12,7 @@ ghost use Rattle.chart.specs.Bodies.{verticesOf};
 ghost use Rattle.chart.specs.Systems.{drawnOf};
 ghost use Rattle.expression.specs.Table.{parse};
 ghost use Rattle.witness.specs.Given.{Given};
-ghost use Rattle.extraction.specs.Writers.{halfOf, LabelIn, Room, Put, Timed, Added, Wrote, WholeSum};
+ghost use Rattle.extraction.specs.Writers.{halfOf, LabelIn, NodeRoom, Put, Timed, Added, Wrote, WholeSum};
 
 // The next node where there is no room for a text.
 pub(crate) const NO_ROOM: usize = 128;
@@ -52,8 +52,8 @@ fn put_product(nodes: &mut [u8; 508], leaf: usize, next: usize) -> usize
     next + 1
 }
 
-// The sum of what is written from `count` on and of the item from node `item` on, where the item is not the first; the next
-// node.
+// The sum of what is written from `count` on and of the item from node `item` on, where the item is not the first; the
+// next node.
 fn put_sum(nodes: &mut [u8; 508], count: usize, item: usize, next: usize) -> usize
     requires { ⌜ (length (now nodes) ≡ 508)
         × (count ≤ item)
@@ -98,7 +98,7 @@ fn write_sum(
 ) -> usize
     requires { ⌜ Given (now chart) (now labels) (now begins)
         × (w < verticesOf (now chart))
-        × Room (now nodes) count limit
+        × NodeRoom (now nodes) count limit
         × (count ≤ limit) ⌝ }
     ensures { λ r. ⌜ Wrote
         (WholeSum (drawnOf (now (chart .entry)) (now (labels .entry))) (halfOf entries) w back)
@@ -154,7 +154,7 @@ pub(crate) fn write_text(
 ) -> usize
     requires { ⌜ Given (now chart) (now labels) (now begins)
         × (w < verticesOf (now chart))
-        × Room (now nodes) count limit ⌝ }
+        × NodeRoom (now nodes) count limit ⌝ }
     ensures { λ r. ⌜ Wrote (Text (drawnOf (now (chart .entry)) (now (labels .entry))) w back)
         count limit (now (nodes .entry)) (now (nodes .exit)) r ⌝ }
 {

@@ -42,7 +42,7 @@ use Rattle.verdict.specs.Verdicts.{verdictOf}
 use Rattle.verdict.proofs.Files.{records-iff}
 use Rattle.verdict.proofs.Layouts.{layout-whole}
 use Rattle.verdict.proofs.Verdicts.{accepted-iff}
-use Rattle.extraction.specs.ExtractionAnswers.{LabelsPass, StartText, TableOf, ExtractionAnswer, too-many, written}
+use Rattle.extraction.specs.ExtractionAnswers.{DrawnPasses, StartText, IsTable, ExtractionAnswer, too-many, written}
 use Rattle.extraction.proofs.StartTexts as texts
 use Rattle.extraction.proofs.ExtractionCalls.{extraction-says}
 use Rattle.promises.specs.Extraction.{ExtractionGives, ExtractionByNumbers, OfStartTexts, OfWritten, chartG, labelsG, nodesG, GivesG}
@@ -66,7 +66,7 @@ meant {b} {labels} {out} {t} x B (p, q) = extraction-says b labels out B x t .0 
 many-nodes : {b labels out u : List ℕ} {e : Expr} → StartText b labels e → ExtractionAnswer b labels out TooManyNodes u → 127 < size e
 many-nodes t (too-many P s h) = subst (λ (f : Expr). 127 < size f) (one-text s t) h
 
-pub of-start-texts : (b labels : List ℕ) → Bytes labels → LabelsPass b labels → OfStartTexts b labels
+pub of-start-texts : (b labels : List ℕ) → Bytes labels → DrawnPasses b labels → OfStartTexts b labels
 of-start-texts b labels B P = record {
   found = texts.start-text b labels P;
   only = one-text;
@@ -77,16 +77,16 @@ of-start-texts b labels B P = record {
 }
 
 -- OF EVERY TABLE THAT IS WRITTEN
-record Wrote (b labels out : List ℕ) (n : ℕ) (t : List ℕ) : Type 0 where
-  passed : LabelsPass b labels
+record WrittenTable (b labels out : List ℕ) (n : ℕ) (t : List ℕ) : Type 0 where
+  passed : DrawnPasses b labels
   text : Expr
   is-text : StartText b labels text
   few : size text ≤ 127
   table : List ℕ
-  is-table : TableOf text table
+  is-table : IsTable text table
   begins : take n t ≡ table
 
-wrote : {b labels out t : List ℕ} {n : ℕ} → ExtractionAnswer b labels out (Length n) t → Wrote b labels out n t
+wrote : {b labels out t : List ℕ} {n : ℕ} → ExtractionAnswer b labels out (Length n) t → WrittenTable b labels out n t
 wrote {out = out} (written {e = e} {s = s} P t h l T) = record {
   passed = P;
   text = e;
@@ -132,7 +132,7 @@ pub of-written : (b labels out : List ℕ) → Bytes labels → (n : ℕ) (t : L
     → OfWritten b labels (take n t)
 of-written b labels out B n t g = go (wrote (meant (Length n) B g))
   where
-    go : Wrote b labels out n t → OfWritten b labels (take n t)
+    go : WrittenTable b labels out n t → OfWritten b labels (take n t)
     go w =
         let P = w .passed in
         let e = w .text in
@@ -188,6 +188,6 @@ G-bytes (suc (suc k)) = omega arith
 pub gives-G : GivesG
 gives-G out h =
     let (l, r, w) = labelled-iff-witness chartG labelsG G-chart G-bytes .0 (1, G-labelled) in
-    let P : LabelsPass chartG labelsG = record { chart = well-formed chartG G-chart; long = l; reaches = r; witness = w } in
+    let P : DrawnPasses chartG labelsG = record { chart = well-formed chartG G-chart; long = l; reaches = r; witness = w } in
     let t = fitting-iff (drawnOf chartG labelsG) 127 1 0 (star (act 1) (act 2)) .0 G-text .0 in
-    given G-bytes (written {s = nodesG} P t (omega arith) h (subst (TableOf (star (act 1) (act 2))) G-nodes (texts.text-table chartG labelsG (P .chart) (star (act 1) (act 2)) t))) refl
+    given G-bytes (written {s = nodesG} P t (omega arith) h (subst (IsTable (star (act 1) (act 2))) G-nodes (texts.text-table chartG labelsG (P .chart) (star (act 1) (act 2)) t))) refl

@@ -1,5 +1,5 @@
--- An expression for a chart with its labelling (document 02, C-14), by the numbers; and what holds of the start's text and of
--- the table that is written. What each answer says, with the lent bytes after it, is `ExtractionAnswer`.
+-- An expression for a chart with its labelling (document 02, C-14), by the numbers; and what holds of the start's text
+-- and of the table that is written. What each answer says, with the lent bytes after it, is `ExtractionAnswer`.
 use mathlib.Core.Path.{_≡_}
 use mathlib.Core.Logic.{_↔_}
 use mathlib.Core.List.{List, [], _∷_}
@@ -20,7 +20,7 @@ use Rattle.bisimulation.specs.Relations.{relationOf}
 use Rattle.verdict.specs.Files.{fileOf}
 use Rattle.verdict.specs.Verdicts.{verdictOf}
 use Rattle.extraction.specs.Extractions.{extractedOf, extractedLeft}
-use Rattle.extraction.specs.ExtractionAnswers.{StartText, TableOf, ExtractionAnswer}
+use Rattle.extraction.specs.ExtractionAnswers.{StartText, IsTable, ExtractionAnswer}
 use Rattle.promises.specs.Accepted.{NumberOfLoops}
 use Rattle.promises.specs.Numbered.{Gives, ByNumbers}
 
@@ -40,10 +40,11 @@ pub record OfStartTexts (b labels : List ℕ) : Type 0 where
   pub found : (e : Expr) × StartText b labels e
   pub only : {e f : Expr} → StartText b labels e → StartText b labels f → e ≡ f
   -- it has a table of bytes, and only one
-  pub table : {e : Expr} → StartText b labels e → (s : List ℕ) × TableOf e s
-  pub one-table : {e : Expr} {s t : List ℕ} → TableOf e s → TableOf e t → s ≡ t
+  pub table : {e : Expr} → StartText b labels e → (s : List ℕ) × IsTable e s
+  pub one-table : {e : Expr} {s t : List ℕ} → IsTable e s → IsTable e t → s ≡ t
   -- where it has at most 127 nodes, and room, that is written; 58 is refused exactly where it has more
-  pub few : {e : Expr} {s : List ℕ} → StartText b labels e → TableOf e s → size e ≤ 127 → (out : List ℕ) → 4 * size e ≤ length out
+  pub few : {e : Expr} {s : List ℕ} → StartText b labels e → IsTable e s → size e ≤ 127
+      → (out : List ℕ) → 4 * size e ≤ length out
       → ExtractionGives b labels out (four 0 (4 * size e) 0 0) (bytesWith s out)
   pub more : {e : Expr} → StartText b labels e → (out : List ℕ)
       → (127 < size e) ↔ ExtractionGives b labels out (four 58 0 0 0) out
@@ -53,7 +54,7 @@ pub record OfWritten (b labels s : List ℕ) : Type 0 where
   -- it is the table of the start's text
   pub text : Expr
   pub is-text : StartText b labels text
-  pub is-table : TableOf text s
+  pub is-table : IsTable text s
   -- it passes 10 to 12, and some relation passes 40 to 45 against the chart
   pub passes : checkOf s ≡ Passed
   pub relation : List ℕ

@@ -20,7 +20,7 @@ use Rattle.elimination.specs.Together.{togetherOf}
 use Rattle.follower.specs.declared.Follower.{Follower}
 use Rattle.follower.specs.States.{Formed, noState}
 use Rattle.follower.specs.WayAnswers.{StatePasses}
-use Rattle.extraction.specs.ExtractionAnswers.{LabelsPass}
+use Rattle.extraction.specs.ExtractionAnswers.{DrawnPasses}
 use Rattle.verdict.specs.Verdicts.{chartIn, labelsIn, verdictOf}
 use Rattle.promises.specs.Numbered.{Telling}
 use Rattle.promises.specs.Accepted.{Holds}
@@ -75,10 +75,10 @@ pub record Promises : Type 1 where
   pub together-accepted : (f : List ℕ) → Bytes f → (v t l : ℕ) → verdictOf f ≡ Accepted v t l
       → (X : Loops) → ((u m : ℕ) → X u m → Loop (stepsIn f) u m)
       → (standing : List ℕ) → StandsFor (chartIn f) (labelsIn f) standing X → OverAccepted f X standing
-  -- C-14, an expression for a drawn chart: each answer; of a chart and a labelling that pass, the start's text; the table that is
-  -- written, which is what stands at the beginning of the lent bytes t after n of them were written; and G
+  -- C-14, an expression for a drawn chart: each answer; of a chart and a labelling that pass, the start's text; the
+  -- table that is written, the first n of the lent bytes t after the call; and G
   pub expression-of-chart : (b labels out : List ℕ) → Bytes labels → ExtractionByNumbers b labels out
-  pub start-texts : (b labels : List ℕ) → Bytes labels → LabelsPass b labels → OfStartTexts b labels
+  pub start-texts : (b labels : List ℕ) → Bytes labels → DrawnPasses b labels → OfStartTexts b labels
   pub written-tables : (b labels out : List ℕ) → Bytes labels → (n : ℕ) (t : List ℕ)
       → ExtractionGives b labels out (four 0 n 0 0) t → OfWritten b labels (take n t)
   pub gives-G : GivesG

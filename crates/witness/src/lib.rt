@@ -139,17 +139,29 @@ fn check_large(body: &[u8], labels: &[u8], begins: &[usize; 129], top: usize) ->
     )
 }
 
-// What 30 to 35 say of a labelling beside a chart body that 20 and 21 let pass, by where its transitions begin.
-pub fn check(body: &[u8], labels: &[u8], begins: &[usize; 129]) -> Labelled
+// What 30 to 35 say of a labelling beside a chart body that 20 and 21 let pass, by where its transitions begin; with
+// tables for all vertices and levels.
+pub fn check_all(body: &[u8], labels: &[u8], begins: &[usize; 129]) -> Labelled
     requires { ⌜ (checkOf (now body) ≡ Stage.Passed) × Begins (now body) (now begins) ⌝ }
     ensures { λ r. ⌜ r ≡ labelledOf (now (body .entry)) (now (labels .entry)) ⌝ }
 {
     if labels.len() != chart::count(body) {
         return Labelled::Refused(Place::LabelsLength(labels.len()));
     }
-    let top = highest_byte(labels);
-    if (byte(body, 0) <= 16) & (top < 16) {
-        return check_small(body, labels, begins, top);
+    check_large(body, labels, begins, highest_byte(labels))
+}
+
+// The same, and a small chart by small tables. The check of a file alone calls it: with a second caller the compiler
+// would no longer put it there, at 44 instructions a file (row G).
+pub fn check(body: &[u8], labels: &[u8], begins: &[usize; 129]) -> Labelled
+    requires { ⌜ (checkOf (now body) ≡ Stage.Passed) × Begins (now body) (now begins) ⌝ }
+    ensures { λ r. ⌜ r ≡ labelledOf (now (body .entry)) (now (labels .entry)) ⌝ }
+{
+    if (byte(body, 0) <= 16) & (labels.len() == chart::count(body)) {
+        let top = highest_byte(labels);
+        if top < 16 {
+            return check_small(body, labels, begins, top);
+        }
     }
-    check_large(body, labels, begins, top)
+    check_all(body, labels, begins)
 }
