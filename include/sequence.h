@@ -88,7 +88,7 @@ typedef enum seq_refusal {
 
 /* The stack that each call needs, in bytes, as bench/stack.c measures it on x86-64 (tests/c/run builds and runs
  * it), rounded up to a KiB. The caller's own come on top. */
-#define SEQ_STACK_CHECK 24576
+#define SEQ_STACK_CHECK 25600
 #define SEQ_STACK_WRITE_CHART 8192
 #define SEQ_STACK_WRITE_EXPRESSION 18432
 #define SEQ_STACK_REMOVE 5120
