@@ -4,7 +4,7 @@ use Prim.Native.Nat.{ℕ, _*_, _≤_, _<_}
 use mathlib.Core.Path.{_≡_, refl, sym, ap, _∙_, subst}
 use mathlib.Core.Logic.{_≢_, _↔_, by-cases}
 use mathlib.Core.List.{List}
-use mathlib.Core.Option.{Option, none, some}
+use mathlib.Core.Option.{Option, some}
 use native.Mathlib.Decide.{ℕ-discrete, decLt}
 use native.Mathlib.Omega.{arith}
 use lib.ListN.{length, take}
@@ -23,7 +23,7 @@ use Rattle.report.specs.declared.Labelled.the-variants as labelled
 use Rattle.report.specs.declared.Extracted.{Extracted}
 use Rattle.report.specs.declared.Extracted.the-variants.{Length, Refused, TooManyNodes}
 use Rattle.bits.specs.Bits.{Bytes, bytesWith}
-use Rattle.chart.specs.Bodies.{startOf, countOf, WellFormed}
+use Rattle.chart.specs.Bodies.{startOf, countOf}
 use Rattle.chart.specs.Checks.{checkOf}
 use Rattle.chart.specs.Systems.{drawnOf}
 use Rattle.chart.proofs.Checks.{well-formed, passes}

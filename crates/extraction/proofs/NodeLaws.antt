@@ -1,6 +1,6 @@
 -- A node is put in the table: it is there, those before it are kept, and an operator's node joins what stands before it.
-use Prim.Native.Nat.{ℕ, zero, suc, _+_, _-_, _*_, _≤_, _<_}
-use mathlib.Core.Path.{_≡_, refl, sym, ap, _∙_, subst}
+use Prim.Native.Nat.{ℕ, suc, _+_, _-_, _*_, _≤_, _<_}
+use mathlib.Core.Path.{_≡_, refl, sym, _∙_, subst}
 use mathlib.Core.Logic.{_≢_}
 use mathlib.Core.List.{List}
 use mathlib.Core.Option.{Option, none, some}
@@ -8,9 +8,9 @@ use native.Mathlib.Omega.{arith}
 use lib.ListN.{length, getD, set, length-set}
 use lib.Seq.{getD-set-same, getD-set-other}
 use borrow.Author.Tests.{lt-ltb}
-use Rattle.theory.specs.Expressions.{Expr, deadlock, act, sum, product, star}
-use Rattle.theory.specs.Nodes.{Op, op-sum, op-product, op-star, Node, dead, leaf, bin, grow}
-use Rattle.theory.specs.PostOrders.{PostOrder, dead-at, leaf-at, bin-at, size}
+use Rattle.theory.specs.Expressions.{Expr, deadlock, act, sum, product}
+use Rattle.theory.specs.Nodes.{Op, op-sum, op-product, op-star, Node, leaf, bin, grow}
+use Rattle.theory.specs.PostOrders.{dead-at, leaf-at, bin-at, size}
 use Rattle.theory.specs.Texts.{plus}
 use Rattle.theory.proofs.TextTests.{size-some}
 use Rattle.theory.proofs.PostOrders.{post-size, post-low-high, post-same}

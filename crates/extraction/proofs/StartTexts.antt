@@ -1,21 +1,19 @@
 -- Of a chart and a labelling that pass the start has a text; its table passes 10 to 12 where it has at most 127 nodes, and no
 -- other bytes are its table.
-use Prim.Native.Nat.{ℕ, suc, _+_, _*_, _≤_, _<_}
-use mathlib.Core.Path.{_≡_, refl, sym, ap, _∙_, subst}
+use Prim.Native.Nat.{ℕ, _*_, _≤_}
+use mathlib.Core.Path.{_≡_, sym, _∙_}
 use mathlib.Core.List.{List}
 use native.Mathlib.Omega.{arith}
-use lib.ListN.{length, take}
 use lib.Seq.{take-all}
 use Rattle.theory.specs.Expressions.{Expr}
-use Rattle.theory.specs.Texts.{Text}
-use Rattle.theory.specs.PostOrders.{PostOrder, size, rootFrom, Acting}
+use Rattle.theory.specs.PostOrders.{size, rootFrom, Acting}
 use Rattle.theory.proofs.Checks.{passed-iff-witness, passed-same}
 use Rattle.theory.proofs.Texts.{has-text, text-acting}
 use Rattle.report.specs.declared.Stage.the-variants.{Passed}
 use Rattle.chart.specs.Bodies.{startOf, WellFormed}
 use Rattle.chart.specs.Systems.{drawnOf}
 use Rattle.chart.proofs.Relations.{steps-formed, drawn-steps, drawn-formed}
-use Rattle.expression.specs.Table.{node, checkOf}
+use Rattle.expression.specs.Table.{checkOf}
 use Rattle.expression.specs.NodeBytes.{tableOf}
 use Rattle.expression.proofs.NodeBytes.{Positive, table-length, table-post, table-passes, post-bytes}
 use Rattle.extraction.specs.ExtractionAnswers.{DrawnPasses, StartText, IsTable}

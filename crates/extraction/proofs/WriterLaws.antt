@@ -1,12 +1,12 @@
 -- A sum and a text as they are written, node by node; and where there is no room for them, that every one would need more.
 use Prim.Native.Nat.{ℕ, zero, suc, _+_, _-_, _*_, _≤_, _<_}
 use mathlib.Core.Path.{_≡_, refl, sym, ap, _∙_, subst}
-use mathlib.Core.Logic.{_≢_, _⊎_, inl, inr, ⊎-elim, _↔_, by-cases}
+use mathlib.Core.Logic.{_≢_, _⊎_, inl, inr, ⊎-elim, by-cases}
 use mathlib.Core.Bool.{true, false, _||_, true≢false}
 use mathlib.Core.List.{List}
-use mathlib.Core.Option.{Option, none, some, Option·some-injective}
+use mathlib.Core.Option.{Option, none, some}
 use native.Mathlib.Omega.{arith}
-use native.Mathlib.Decide.{ℕ-discrete, decLe, decLt}
+use native.Mathlib.Decide.{decLe}
 use lib.Dec.{eqb, ltb}
 use lib.ListN.{length, getD, take, drop}
 use Rattle.theory.specs.Expressions.{Expr, deadlock, act, sum, product, star}
@@ -20,15 +20,15 @@ use Rattle.theory.proofs.TextTests.{size-some, one-sum}
 use Rattle.bits.specs.Bits.{Bytes}
 use Rattle.bits.proofs.Determined.{split-one}
 use Rattle.chart.specs.Bodies.{verticesOf, countOf, fromOf, actionOf, toOf, WellFormed}
-use Rattle.chart.specs.Leaving.{leavingOf, Begins}
-use Rattle.chart.specs.Parts.{countIn, beside, PartOf}
+use Rattle.chart.specs.Leaving.{leavingOf}
+use Rattle.chart.specs.Parts.{countIn}
 use Rattle.chart.specs.Systems.{drawnOf}
 use Rattle.chart.proofs.Checks.{well-formed}
-use Rattle.chart.proofs.Order.{at-low, at-high, span-of, begins-range}
+use Rattle.chart.proofs.Order.{at-low, at-high, begins-range}
 use Rattle.chart.proofs.Rows.{looked-up, part-byte, part-leaves, beside-long, beside-byte}
 use Rattle.expression.specs.Table.{parse, node}
 use Rattle.witness.specs.Given.{Given}
-use Rattle.extraction.specs.Writers.{halfOf, LabelIn, NodeRoom, KeptBelow, Put, NodesOf, no-node, followed, Timed, Added, Wrote, WholeSum}
+use Rattle.extraction.specs.Writers.{LabelIn, NodeRoom, KeptBelow, Put, NodesOf, no-node, followed, Timed, Added, Wrote, WholeSum}
 use Rattle.extraction.proofs.NodeLaws.{sizeOf, nodes-end, nodes-same, kept-all, kept-both, leaf-put, dead-put, join}
 
 -- the operator's node that joins what stands to something else: none where nothing stands

@@ -1,5 +1,5 @@
 -- What document 02 says of each answer of writing the expression of a chart (C-14), and of the lent bytes after it.
-use Prim.Native.Nat.{ℕ, suc, _*_, _<_, _≤_}
+use Prim.Native.Nat.{ℕ, _*_, _<_, _≤_}
 use mathlib.Core.Path.{_≡_}
 use mathlib.Core.List.{List}
 use lib.ListN.{length}

@@ -1,5 +1,5 @@
 -- What the writers of a text and of a sum are given, and what they leave in the table of nodes.
-use Prim.Native.Nat.{ℕ, suc, _+_, _*_, _<_, _≤_}
+use Prim.Native.Nat.{ℕ, suc, _+_, _<_, _≤_}
 use mathlib.Core.Path.{_≡_}
 use mathlib.Core.Logic.{_≢_, _⊎_}
 use mathlib.Core.Bool.{Bool, true, false}
@@ -10,7 +10,7 @@ use Rattle.theory.specs.Expressions.{Expr, act, product}
 use Rattle.theory.specs.Nodes.{Node, leaf}
 use Rattle.theory.specs.LabelledCharts.{LabelledChart, Half, entries, branches}
 use Rattle.theory.specs.PostOrders.{PostOrder, size}
-use Rattle.theory.specs.Texts.{plus, total, Text, Sum}
+use Rattle.theory.specs.Texts.{plus, total, Sum}
 use Rattle.theory.specs.Relations.{Indexed}
 use Rattle.expression.specs.Table.{node}
 

@@ -13,9 +13,7 @@ ghost use Prim.Native.Nat.{ℕ, _*_, _<_, _≤_};
 ghost use lib.ListN.{length, take};
 ghost use Rattle.bits.specs.Bits.{bytesWith};
 ghost use Rattle.chart.specs.Checks.{checkOf};
-ghost use Rattle.chart.specs.Leaving.{Begins};
 ghost use Rattle.witness.specs.Given.{Given};
-ghost use Rattle.witness.specs.Labellings.{labelledOf};
 ghost use Rattle.extraction.specs.Extractions.{startText, textWritten, textLeft, extractedOf, extractedLeft};
 
 // Copies the first n bytes; those past them are kept.

@@ -1,6 +1,5 @@
 -- An expression for a chart (document 02, C-14), by the numbers, proved.
 use mathlib.Core.Path.{_≡_, refl, sym, ap, _∙_, subst}
-use mathlib.Core.Logic.{_≢_, _↔_}
 use mathlib.Core.List.{List, _++_}
 use mathlib.Core.Option.{some}
 use Prim.Native.Nat.{ℕ, zero, suc, _+_, _*_, _<_, _≤_}
@@ -8,7 +7,7 @@ use native.Mathlib.Omega.{arith}
 use lib.ListN.{length, take, length-append}
 use lib.Seq.{take-append-seam}
 use Rattle.theory.specs.Expressions.{Expr, act, star}
-use Rattle.theory.specs.PostOrders.{size, rootFrom, numberedFrom}
+use Rattle.theory.specs.PostOrders.{size, numberedFrom}
 use Rattle.theory.specs.TextTests as tests-of
 use Rattle.theory.specs.Tests as tests
 use Rattle.theory.specs.Reachability.{values, rounds, reaches}
@@ -24,9 +23,8 @@ use Rattle.report.specs.declared.Extracted.the-variants.{Length, TooManyNodes}
 use Rattle.report.specs.Numbers.{four, extractedNumbers}
 use Rattle.report.proofs.NumberLaws.{one-extracted}
 use Rattle.bits.specs.Bits.{Bytes, bytesWith}
-use Rattle.chart.specs.Bodies.{verticesOf, countOf, startOf}
+use Rattle.chart.specs.Bodies.{verticesOf, countOf}
 use Rattle.chart.specs.Checks as chart
-use Rattle.chart.specs.Steps.{StepsOf}
 use Rattle.chart.specs.Systems.{drawnOf}
 use Rattle.chart.proofs.Checks.{well-formed, passes}
 use Rattle.expression.specs.Table as nodes

@@ -4,8 +4,6 @@ use native.Mathlib.Omega.{arith}
 use Rattle.extraction.proofs.Copies.{CopiedTo, copied-none, copied-more, copied-all}
 use Rattle.extraction.proofs.copy.Statement.{statement}
 use Rattle.extraction.proofs.copy.Tie as tie
-use Rattle.extraction.proofs.copy.Reads as reads
-use Rattle.extraction.proofs.copy.Lts as lts
 
 abbrev Inv-loop : tie.InvT-loop
 Inv-loop nodes n out₀ i₀ out i = (i ≤ n) × CopiedTo nodes out₀ out i
@@ -13,27 +11,21 @@ Inv-loop nodes n out₀ i₀ out i = (i ≤ n) × CopiedTo nodes out₀ out i
 abbrev μ-loop : tie.MeasureT-loop
 μ-loop nodes n out₀ i₀ out i = n - i
 
--- src/lib.rt:27:5
 loop-holds : tie.Need-loop-holds Inv-loop μ-loop
 loop-holds c = (omega arith, copied-none)
 
--- src/lib.rt:28:18
 element-copy-out-out : tie.Need-element-copy-out-out Inv-loop μ-loop
 element-copy-out-out c = let p = c .before .before .pre in omega (arith, p .1, c .loop-test .taken)
 
--- src/lib.rt:28:9
 slice-write-out : tie.Need-slice-write-out Inv-loop μ-loop
 slice-write-out c = search needs
 
--- src/lib.rt:29:9
 add-i : tie.Need-add-i Inv-loop μ-loop
 add-i c = search needs
 
--- src/lib.rt:27:5
 loop-less : tie.Need-loop-less Inv-loop μ-loop
 loop-less c = search needs
 
--- src/lib.rt:27:5
 loop-again : tie.Need-loop-again Inv-loop μ-loop
 loop-again c =
     let i = c .before .before .loop .inv in
@@ -41,11 +33,9 @@ loop-again c =
     let t = c .before .loop-test .taken in
     (omega (arith, t), copied-more (i .1) (omega (arith, t, p .2)))
 
--- src/lib.rt:22:1
 same-length : tie.Need-same-length Inv-loop μ-loop
 same-length c = search needs
 
--- src/lib.rt:22:1
 returns : tie.Need-returns Inv-loop μ-loop
 returns c =
     let i = c .before .loop .inv in

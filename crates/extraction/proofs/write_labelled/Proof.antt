@@ -5,43 +5,30 @@ use Rattle.chart.proofs.Checks.{well-formed}
 use Rattle.extraction.proofs.ExtractionCalls.{start-wrote, none-told, few-nodes, short-told, table-told}
 use Rattle.extraction.proofs.write_labelled.Statement.{statement}
 use Rattle.extraction.proofs.write_labelled.Tie as tie
-use Rattle.extraction.proofs.write_labelled.Reads as reads
-use Rattle.extraction.proofs.write_labelled.Lts as lts
-use Rattle.bits.proofs.byte.Reads as byte-reads
-use Rattle.extraction.proofs.copy.Reads as copy-reads
-use Rattle.extraction.proofs.texts.write_text.Reads as write-text-reads
 
--- src/lib.rt:40:9
 byte-requires : tie.Need-byte-requires
 byte-requires c κs = let p = c .before .before .before .pre in omega (arith, well-formed _ (p .passed) .header .long)
 
--- src/lib.rt:41:9
 write-text-requires : tie.Need-write-text-requires
 write-text-requires c κs =
     let p = c .before .before .before .before .before .pre in
     (p, rw (c .before .byte .ensures .0) (well-formed _ (p .passed) .header .start-high), record { long = refl; few = omega arith; within = omega arith })
 
--- src/lib.rt:43:9
 returns : tie.Need-returns
 returns c = none-told _ _ _ (start-wrote (c .before .before .before .before .before .before .before .args .chart .now) (c .before .before .before .before .before .before .before .args .labels .now) (c .before .before .before .byte .ensures .0) (c .before .write-text .ensures)) (c .if1 .taken)
 
--- src/lib.rt:45:18
 mul-needed : tie.Need-mul-needed
 mul-needed c = record { fits = omega (arith, few-nodes (c .before .write-text .ensures) (c .if1 .left)) }
 
--- src/lib.rt:47:9
 returns-2 : tie.Need-returns-2
 returns-2 c = short-told _ _ _ (start-wrote (c .before .before .before .before .before .before .before .before .args .chart .now) (c .before .before .before .before .before .before .before .before .args .labels .now) (c .before .before .before .before .byte .ensures .0) (c .before .before .write-text .ensures)) (c .before .if1 .left) (c .if2 .taken)
 
--- src/lib.rt:49:5
 copy-requires : tie.Need-copy-requires
 copy-requires c κs = (c .before .before .before .before .write-text .ensures .kept .long, omega (arith, few-nodes (c .before .before .before .before .write-text .ensures) (c .before .before .before .if1 .left)), omega (arith, c .before .before .if2 .left))
 
--- src/lib.rt:34:1
 same-length : tie.Need-same-length
 same-length c = search needs
 
--- src/lib.rt:34:1
 returns-3 : tie.Need-returns-3
 returns-3 c =
     let W = start-wrote (c .before .before .before .before .before .before .before .before .before .before .before .before .before .args .chart .now) (c .before .before .before .before .before .before .before .before .before .before .before .before .before .args .labels .now) (c .before .before .before .before .before .before .before .before .before .byte .ensures .0) (c .before .before .before .before .before .before .before .write-text .ensures) in

@@ -1,8 +1,8 @@
 -- The writer of a sum and the writer of a text meet their contracts. The number that falls is that of the nodes that are left,
 -- from `count` up to `limit`: twice that for a text, and one more for a sum.
 use Prim.Native.Nat.{ℕ, _+_, _-_, _*_, _<_}
-use mathlib.Core.Path.{_≡_, refl, sym, subst, _∙_}
-use mathlib.Core.Logic.{_⊎_, inl, inr, ⊎-elim}
+use mathlib.Core.Path.{_≡_, sym, subst, _∙_}
+use mathlib.Core.Logic.{_⊎_, ⊎-elim}
 use mathlib.Core.Bool.{true≢false}
 use mathlib.Core.Option.{some}
 use native.Mathlib.Omega.{arith}

@@ -1,14 +1,10 @@
 use Rattle.theory.proofs.Tests.{decides-eqb, decides-not}
 use Rattle.extraction.proofs.texts.in_half.Statement.{statement}
 use Rattle.extraction.proofs.texts.in_half.Tie as tie
-use Rattle.extraction.proofs.texts.in_half.Reads as reads
-use Rattle.extraction.proofs.texts.in_half.Lts as lts
 
--- src/texts.rt:80:1
 returns : tie.Need-returns
 returns c = rw (c .if1 .taken) (decides-not (decides-eqb _ 0))
 
--- src/texts.rt:80:1
 returns-2 : tie.Need-returns-2
 returns-2 c = rw (c .if1 .left) (decides-eqb _ 0)
 

@@ -2,50 +2,37 @@ use borrow.Author.Needs.{needs}
 use Rattle.extraction.proofs.NodeLaws.{put-four}
 use Rattle.extraction.proofs.texts.put_node.Statement.{statement}
 use Rattle.extraction.proofs.texts.put_node.Tie as tie
-use Rattle.extraction.proofs.texts.put_node.Reads as reads
-use Rattle.extraction.proofs.texts.put_node.Lts as lts
 
--- src/texts.rt:43:13
 mul-p : tie.Need-mul-p
 mul-p c = search needs
 
--- src/texts.rt:44:5
 element-write-nodes : tie.Need-element-write-nodes
 element-write-nodes c = search needs
 
--- src/texts.rt:45:11
 add-nodes : tie.Need-add-nodes
 add-nodes c = search needs
 
--- src/texts.rt:45:5
 element-write-nodes-2 : tie.Need-element-write-nodes-2
 element-write-nodes-2 c = search needs
 
--- src/texts.rt:46:20
 cast-nodes : tie.Need-cast-nodes
 cast-nodes c = search needs
 
--- src/texts.rt:46:11
 add-nodes-2 : tie.Need-add-nodes-2
 add-nodes-2 c = search needs
 
--- src/texts.rt:46:5
 element-write-nodes-3 : tie.Need-element-write-nodes-3
 element-write-nodes-3 c = search needs
 
--- src/texts.rt:47:20
 cast-nodes-2 : tie.Need-cast-nodes-2
 cast-nodes-2 c = search needs
 
--- src/texts.rt:47:11
 add-nodes-3 : tie.Need-add-nodes-3
 add-nodes-3 c = search needs
 
--- src/texts.rt:47:5
 element-write-nodes-4 : tie.Need-element-write-nodes-4
 element-write-nodes-4 c = search needs
 
--- src/texts.rt:32:1
 returns : tie.Need-returns
 returns c = put-four _ _ _ _ _ _ (search needs) (search needs)
 

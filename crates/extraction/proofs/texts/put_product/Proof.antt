@@ -3,33 +3,24 @@ use borrow.Author.Needs.{needs}
 use Rattle.extraction.proofs.NodeLaws.{timed-alone, timed-text}
 use Rattle.extraction.proofs.texts.put_product.Statement.{statement}
 use Rattle.extraction.proofs.texts.put_product.Tie as tie
-use Rattle.extraction.proofs.texts.put_product.Reads as reads
-use Rattle.extraction.proofs.texts.put_product.Lts as lts
-use Rattle.extraction.proofs.texts.put_node.Reads as put-node-reads
 
--- src/texts.rt:55:8
 add-if1 : tie.Need-add-if1
 add-if1 c = search needs
 
--- src/texts.rt:56:9
 returns : tie.Need-returns
 returns c = timed-alone (c .if1 .taken)
 
--- src/texts.rt:58:45
 sub-put-node : tie.Need-sub-put-node
 sub-put-node c = search needs
 
--- src/texts.rt:58:5
 put-node-requires : tie.Need-put-node-requires
 put-node-requires c κs =
     let p = c .before .before .pre in
     (p .0, p .3 (omega (arith, p .1, c .before .if1 .left)), omega (arith, p .1, p .2), omega (arith, p .2))
 
--- src/texts.rt:59:5
 add-result : tie.Need-add-result
 add-result c = search needs
 
--- src/texts.rt:51:1
 returns-2 : tie.Need-returns-2
 returns-2 c =
     let p = c .before .before .before .pre in timed-text (p .1) (c .before .before .if1 .left) (c .put-node .ensures)

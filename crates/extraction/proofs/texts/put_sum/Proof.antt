@@ -3,33 +3,24 @@ use borrow.Author.Needs.{needs}
 use Rattle.extraction.proofs.NodeLaws.{added-first, added-later}
 use Rattle.extraction.proofs.texts.put_sum.Statement.{statement}
 use Rattle.extraction.proofs.texts.put_sum.Tie as tie
-use Rattle.extraction.proofs.texts.put_sum.Reads as reads
-use Rattle.extraction.proofs.texts.put_sum.Lts as lts
-use Rattle.extraction.proofs.texts.put_node.Reads as put-node-reads
 
--- src/texts.rt:73:9
 returns : tie.Need-returns
 returns c = added-first (c .if1 .taken)
 
--- src/texts.rt:75:35
 sub-put-node : tie.Need-sub-put-node
 sub-put-node c = search needs
 
--- src/texts.rt:75:45
 sub-put-node-2 : tie.Need-sub-put-node-2
 sub-put-node-2 c = search needs
 
--- src/texts.rt:75:5
 put-node-requires : tie.Need-put-node-requires
 put-node-requires c κs =
     let p = c .before .before .pre in
     (p .0, p .4 (omega (arith, p .1, c .before .if1 .left)), omega (arith, p .2, p .3), omega (arith, p .3))
 
--- src/texts.rt:76:5
 add-result : tie.Need-add-result
 add-result c = search needs
 
--- src/texts.rt:64:1
 returns-2 : tie.Need-returns-2
 returns-2 c =
     let p = c .before .before .before .pre in
