@@ -4,21 +4,14 @@ mod common;
 mod followers;
 mod proved;
 mod removals;
-use common::first_body;
+use common::{first_body, of_the_repository, yard};
 use followers::Follower;
 use oracle::gen::expressions::{post_order, Shape};
 use oracle::gen::lists::Call;
 use oracle::gen::{relations, Yard, CHECK_REFUSALS};
 use oracle::{plain, Answer};
-use std::fs;
-use std::path::Path;
 
 const FILE: &str = "examples/weighbridge.yard";
-
-fn of_the_repository(name: &str) -> Vec<u8> {
-    let path = Path::new(env!("CARGO_MANIFEST_DIR")).join("..").join(name);
-    fs::read(&path).unwrap_or_else(|error| panic!("{}: {error}", path.display()))
-}
 
 fn page() -> String {
     String::from_utf8(of_the_repository("docs/REFUSALS.md")).expect("the page is text")
@@ -150,17 +143,6 @@ fn expression(file: &[u8], length: usize) -> (Answer, Vec<u8>) {
 fn kept((answer, left): (Answer, Vec<u8>)) -> Answer {
     assert!(left.iter().all(|byte| *byte == 0xEE));
     answer
-}
-
-fn yard(file: &[u8]) -> Yard {
-    let bodies = plain::read_records(file).expect("four records");
-    let [expression, chart, labelling, relation] = bodies.map(<[u8]>::to_vec);
-    Yard {
-        expression,
-        chart,
-        labelling,
-        relation,
-    }
 }
 
 /// Takes a loop out of the file's chart.

@@ -242,101 +242,113 @@ module _ {b labels : List ℕ} {half : Half} {w back : ℕ} {part marks : List �
   pub target-low : i < length marks → toOf b (from + i) < verticesOf b
   target-low l = A .vertex .formed .each (from + i) (omega (arith, A .vertex .within)) .to-high
 
-  -- every sum with this item is too long where an item of its kind is
-  module _ {end : ℕ} (l : i < length marks) (h : LabelIn half (getD marks i 0)) (r : end + joinNode (A .items) ≡ limit) where
-    item-long : ((y : Option Expr) → After (drawnOf b labels) back (from + i) y → end < at + size (followed (actionOf b (from + i)) y))
-        → (e : Expr) → WholeSum (drawnOf b labels) half w back e → limit < count + size e
-    item-long f e W =
-        let k = whole-long (suc (from + i)) (limit - count) (omega (arith, A .vertex .within)) (λ x t.
-        let (y, a, q) = sum-last (A .sum) (in-half (A .vertex) half i l h) t in
-        rw q (omega (arith, f y a, at-size, plus-size (A .items) (followed (actionOf b (from + i)) y)))) e W in
-        omega arith
+-- AN ITEM'S TURN: transition i of the part is of this half, and what its item may take is below `end`, with the sum's node set
+-- aside
+pub record ItemAt (b labels : List ℕ) (half : Half) (w back : ℕ) (part marks : List ℕ) (from count limit : ℕ) (s₀ s : List ℕ)
+    (at i end : ℕ) : Type 0 where
+  pub sum : SumAt b labels half w back part marks from count limit s₀ s at i
+  pub inside : i < length marks
+  pub mine : LabelIn half (getD marks i 0)
+  pub room : end + joinNode (sum .items) ≡ limit
 
-    -- no room for the action
-    pub full-at-action : end ≤ at → (e : Expr) → WholeSum (drawnOf b labels) half w back e → limit < count + size e
-    full-at-action g = item-long (λ y a. omega (arith, size-some (followed (actionOf b (from + i)) y)))
+module _ {b labels : List ℕ} {half : Half} {w back : ℕ} {part marks : List ℕ} {from count limit : ℕ} {s₀ s : List ℕ} {at i end : ℕ}
+    (I : ItemAt b labels half w back part marks from count limit s₀ s at i end) where
+  -- every sum with it is too long where an item of its kind is
+  item-long : ((y : Option Expr) → After (drawnOf b labels) back (from + i) y → end < at + size (followed (actionOf b (from + i)) y))
+      → (e : Expr) → WholeSum (drawnOf b labels) half w back e → limit < count + size e
+  item-long f e W =
+      let k = whole-long (suc (from + i)) (limit - count) (omega (arith, I .sum .vertex .within)) (λ x t.
+      let (y, a, q) = sum-last (I .sum .sum) (in-half (I .sum .vertex) half i (I .inside) (I .mine)) t in
+      rw q (omega (arith, f y a, at-size (I .sum), plus-size (I .sum .items) (followed (actionOf b (from + i)) y)))) e W in
+      omega arith
 
-    -- nor for the target's text
-    pub full-at-text : {target : ℕ} → target ≡ toOf b (from + i) → target ≢ back → at < end
-        → ((e : Expr) → Text (drawnOf b labels) target back e → end - 1 < at + 1 + size e)
-        → (e : Expr) → WholeSum (drawnOf b labels) half w back e → limit < count + size e
-    full-at-text {target} z n g f = item-long go
+  -- no room for the action
+  pub full-at-action : end ≤ at → (e : Expr) → WholeSum (drawnOf b labels) half w back e → limit < count + size e
+  full-at-action g = item-long (λ y a. omega (arith, size-some (followed (actionOf b (from + i)) y)))
+
+  -- nor for the target's text
+  pub full-at-text : {target : ℕ} → target ≡ toOf b (from + i) → target ≢ back → at < end
+      → ((e : Expr) → Text (drawnOf b labels) target back e → end - 1 < at + 1 + size e)
+      → (e : Expr) → WholeSum (drawnOf b labels) half w back e → limit < count + size e
+  full-at-text {target} z n g f = item-long go
+    where
+      go : (y : Option Expr) → After (drawnOf b labels) back (from + i) y → end < at + size (followed (actionOf b (from + i)) y)
+      go none (at-once e) = absurd (n (z ∙ e))
+      go (some d) (by-text e t) = omega (arith, f d (subst (λ (v : ℕ). Text (drawnOf b labels) v back d) (sym z) t))
+
+  -- the item is written: its action at `at`, what follows it up to `next`, then its product's node and the sum's
+  module _ {s₁ s₂ : List ℕ} {next : ℕ} (U : Put at (parse at 1 (getD part (4 * i + 1) 0) 0 0) s s₁)
+      (F : AfterAt (drawnOf b labels) back (from + i) at end s₁ s₂ next) where
+    abbrev item-is : Expr
+    item-is = followed (actionOf b (from + i)) (F .rest)
+
+    pub after-long : length s₂ ≡ 508
+    after-long = F .kept .long ∙ U .kept .long ∙ I .sum .long
+
+    -- the product's node has room, and then the sum's
+    pub product-room : (at < next) × (next ≤ 127) × (suc at < next → next < 127)
+    product-room = go (F .rest) (F .stand) (F .room)
       where
-        go : (y : Option Expr) → After (drawnOf b labels) back (from + i) y → end < at + size (followed (actionOf b (from + i)) y)
-        go none (at-once e) = absurd (n (z ∙ e))
-        go (some d) (by-text e t) = omega (arith, f d (subst (λ (v : ℕ). Text (drawnOf b labels) v back d) (sym z) t))
+        go : (y : Option Expr) → NodesOf (node s₂) (at + 1) y next → next + joinNode y ≤ end → (at < next) × (next ≤ 127) × (suc at < next → next < 127)
+        go none n g = let e = nodes-end none n in (omega arith, omega (arith, I .sum .low), λ k. omega (arith, k))
+        go (some d) n g = let e = nodes-end (some d) n in let r = I .room in (omega arith, omega (arith, I .sum .low), λ k. omega (arith, I .sum .low))
 
-    -- the item is written: its action at `at`, what follows it up to `next`, then its product's node and the sum's
-    module _ {s₁ s₂ : List ℕ} {next : ℕ} (U : Put at (parse at 1 (getD part (4 * i + 1) 0) 0 0) s s₁)
-        (F : AfterAt (drawnOf b labels) back (from + i) at end s₁ s₂ next) where
-      abbrev item-is : Expr
-      item-is = followed (actionOf b (from + i)) (F .rest)
+    module _ {s₃ : List ℕ} {after-item : ℕ} (T : Timed at next s₂ s₃ after-item) where
+      item-stands : NodesOf (node s₃) at (some item-is) after-item
+      item-stands =
+          let z : at + 1 ≡ suc at = omega arith in
+          T .item (actionOf b (from + i)) (F .rest)
+          (F .kept .same at (omega arith) ∙ leaf-put (action-some (I .sum) (I .inside)) U ∙ ap leaf (I .sum .vertex .action i (I .inside)))
+          (subst (λ (k : ℕ). NodesOf (node s₂) k (F .rest) next) z (F .stand))
 
-      pub after-long : length s₂ ≡ 508
-      after-long = F .kept .long ∙ U .kept .long ∙ A .long
+      pub item-end : after-item ≡ next + joinNode (F .rest)
+      item-end = omega (
+        arith,
+        nodes-end (some item-is) item-stands,
+        followed-size (actionOf b (from + i)) (F .rest),
+        nodes-end (F .rest) (F .stand),
+      )
 
-      -- the product's node has room, and then the sum's
-      pub product-room : (at < next) × (next ≤ 127) × (suc at < next → next < 127)
-      product-room = go (F .rest) (F .stand) (F .room)
-        where
-          go : (y : Option Expr) → NodesOf (node s₂) (at + 1) y next → next + joinNode y ≤ end → (at < next) × (next ≤ 127) × (suc at < next → next < 127)
-          go none n g = let e = nodes-end none n in (omega arith, omega (arith, A .low), λ k. omega (arith, k))
-          go (some d) n g = let e = nodes-end (some d) n in (omega arith, omega (arith, A .low), λ k. omega (arith, A .low))
+      pub sum-room : (length s₃ ≡ 508) × (count ≤ at) × (at < after-item) × (after-item ≤ 127) × (count < at → after-item < 127)
+      sum-room = (
+        T .kept .long ∙ after-long,
+        omega (arith, at-size (I .sum)),
+        omega (arith, item-end, product-room .0),
+        omega (arith, item-end, F .room, I .room, I .sum .low),
+        λ k. omega (arith, item-end, F .room, I .room, I .sum .low, some-joins (I .sum) (I .sum .items) (at-size (I .sum)) k),
+      )
 
-      module _ {s₃ : List ℕ} {after-item : ℕ} (T : Timed at next s₂ s₃ after-item) where
-        item-stands : NodesOf (node s₃) at (some item-is) after-item
-        item-stands =
-            let z : at + 1 ≡ suc at = omega arith in
-            T .item (actionOf b (from + i)) (F .rest)
-            (F .kept .same at (omega arith) ∙ leaf-put (action-some l) U ∙ ap leaf (A .vertex .action i l))
-            (subst (λ (k : ℕ). NodesOf (node s₂) k (F .rest) next) z (F .stand))
+      pub sum-item : {s₄ : List ℕ} {at′ : ℕ} → Added count at after-item s₃ s₄ at′
+          → SumAt b labels half w back part marks from count limit s₀ s₄ at′ (i + 1)
+      sum-item {s₄} {at′} D =
+          let before = nodes-same (I .sum .items) (λ k q. T .kept .same k (omega (arith, product-room .0)) ∙ F .kept .same k (omega arith) ∙ U .kept .same k q) (I .sum .stand) in
+          let all = D .sum (I .sum .items) item-is before item-stands in
+          record {
+            vertex = I .sum .vertex;
+            long = D .kept .long ∙ T .kept .long ∙ after-long;
+            low = I .sum .low;
+            kept = kept-both (omega (arith, at-size (I .sum))) (I .sum .kept)
+                (kept-both (omega arith) (U .kept)
+                (kept-both (omega (arith, product-room .0)) (F .kept)
+                (kept-both (omega (arith, item-end)) (T .kept) (D .kept))));
+            so-far = omega arith;
+            items = some (plus (I .sum .items) item-is);
+            sum = next-sum (I .sum) (sum-more (F .rest) (I .sum .sum) (in-half (I .sum .vertex) half i (I .inside) (I .mine)) (F .is));
+            stand = all;
+            room = omega (
+              arith,
+              nodes-end (some (plus (I .sum .items) item-is)) all,
+              plus-size (I .sum .items) item-is,
+              at-size (I .sum),
+              nodes-end (some item-is) item-stands,
+              item-end,
+              F .room,
+              I .room,
+            );
+          }
 
-        pub item-end : after-item ≡ next + joinNode (F .rest)
-        item-end = omega (
-          arith,
-          nodes-end (some item-is) item-stands,
-          followed-size (actionOf b (from + i)) (F .rest),
-          nodes-end (F .rest) (F .stand),
-        )
-
-        pub sum-room : (length s₃ ≡ 508) × (count ≤ at) × (at < after-item) × (after-item ≤ 127) × (count < at → after-item < 127)
-        sum-room = (
-          T .kept .long ∙ after-long,
-          omega (arith, at-size),
-          omega (arith, item-end, product-room .0),
-          omega (arith, item-end, F .room, r, A .low),
-          λ k. omega (arith, item-end, F .room, r, A .low, some-joins (A .items) at-size k),
-        )
-
-        pub sum-item : {s₄ : List ℕ} {at′ : ℕ} → Added count at after-item s₃ s₄ at′
-            → SumAt b labels half w back part marks from count limit s₀ s₄ at′ (i + 1)
-        sum-item {s₄} {at′} D =
-            let before = nodes-same (A .items) (λ k q. T .kept .same k (omega (arith, product-room .0)) ∙ F .kept .same k (omega arith) ∙ U .kept .same k q) (A .stand) in
-            let all = D .sum (A .items) item-is before item-stands in
-            record {
-              vertex = A .vertex;
-              long = D .kept .long ∙ T .kept .long ∙ after-long;
-              low = A .low;
-              kept = kept-both (omega (arith, at-size)) (A .kept)
-                  (kept-both (omega arith) (U .kept)
-                  (kept-both (omega (arith, product-room .0)) (F .kept)
-                  (kept-both (omega (arith, item-end)) (T .kept) (D .kept))));
-              so-far = omega arith;
-              items = some (plus (A .items) item-is);
-              sum = next-sum (sum-more (F .rest) (A .sum) (in-half (A .vertex) half i l h) (F .is));
-              stand = all;
-              room = omega (
-                arith,
-                nodes-end (some (plus (A .items) item-is)) all,
-                plus-size (A .items) item-is,
-                at-size,
-                nodes-end (some item-is) item-stands,
-                item-end,
-                F .room,
-                r,
-              );
-            }
-
+module _ {b labels : List ℕ} {half : Half} {w back : ℕ} {part marks : List ℕ} {from count limit : ℕ} {s₀ s : List ℕ} {at i : ℕ}
+    (A : SumAt b labels half w back part marks from count limit s₀ s at i) where
   -- THE END of the part: items, or deadlock, or no room for it
   all-items : length marks ≤ i → Sum (drawnOf b labels) half w back (countOf b) (A .items)
   all-items l =
@@ -352,7 +364,7 @@ module _ {b labels : List ℕ} {half : Half} {w back : ℕ} {part marks : List �
       go (some e) n q = record { kept = A .kept; said = inl (e, (some e, q, refl), n, A .room) }
 
   no-items : at ≤ count → A .items ≡ none
-  no-items l = go (A .items) at-size
+  no-items l = go (A .items) (at-size A)
     where
       go : (x : Option Expr) → at ≡ count + sizeOf x → x ≡ none
       go none e = refl
@@ -362,7 +374,7 @@ module _ {b labels : List ℕ} {half : Half} {w back : ℕ} {part marks : List �
       → Wrote (WholeSum (drawnOf b labels) half w back) count limit s₀ t (at + 1)
   sum-dead {t} l h g U =
       let q = no-items h in
-      let e : at ≡ count = omega (arith, at-size) in
+      let e : at ≡ count = omega (arith, at-size A) in
       let z : suc at ≡ at + 1 = omega arith in
       record {
         kept = kept-both (omega arith) (A .kept) (U .kept);

@@ -5,6 +5,8 @@ use oracle::plain::{Chart, Transition};
 use oracle::{fast, gen, plain, Answer};
 use std::collections::BTreeMap;
 use std::fmt::Debug;
+use std::fs;
+use std::path::Path;
 use std::thread;
 
 /// A test for each function that a module shares, of its name and with these
@@ -156,4 +158,22 @@ pub fn first_body(file: &[u8]) -> &[u8] {
 pub fn in_a_stack<T: Send + 'static>(kib: usize, calls: impl FnOnce() -> T + Send + 'static) -> T {
     let thread = thread::Builder::new().stack_size(kib * 1024).spawn(calls);
     thread.expect("a thread").join().expect("answers")
+}
+
+/// A file of the repository.
+pub fn of_the_repository(name: &str) -> Vec<u8> {
+    let path = Path::new(env!("CARGO_MANIFEST_DIR")).join("..").join(name);
+    fs::read(&path).unwrap_or_else(|error| panic!("{}: {error}", path.display()))
+}
+
+/// The bodies of a file of four records.
+pub fn yard(file: &[u8]) -> Yard {
+    let bodies = plain::read_records(file).expect("four records");
+    let [expression, chart, labelling, relation] = bodies.map(<[u8]>::to_vec);
+    Yard {
+        expression,
+        chart,
+        labelling,
+        relation,
+    }
 }

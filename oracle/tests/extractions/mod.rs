@@ -2,7 +2,7 @@
 //! every length that matters. What is written is also taken apart by the request's
 //! words, and a relation is searched for with which it makes an accepted file.
 #![allow(dead_code)]
-use crate::common::{both, chart, files, g, pattern, two_loops, Seen};
+use crate::common::{both, chart, files, g, of_the_repository, pattern, two_loops, yard, Seen};
 use crate::removals::{accepted, labelled};
 use oracle::gen::charts::reached_part;
 use oracle::gen::expressions::{post_order, Shape};
@@ -11,8 +11,6 @@ use oracle::gen::{self, labels, relations, Rng, Yard};
 use oracle::plain::{self, Chart, Node, Transition};
 use oracle::{fast, Answer};
 use std::fmt::Display;
-use std::fs;
-use std::path::Path;
 
 /// The call, which takes a chart, labels and lent bytes, and the check beside it.
 #[derive(Clone, Copy)]
@@ -506,29 +504,15 @@ pub fn single_texts(calls: Calls) {
     }
 }
 
-fn example(name: &str) -> Yard {
-    let package = Path::new(env!("CARGO_MANIFEST_DIR"));
-    let path = package.join("../examples").join(name);
-    let file = fs::read(&path).unwrap_or_else(|error| panic!("{}: {error}", path.display()));
-    let bodies = plain::read_records(&file).expect("four records");
-    let [expression, chart, labelling, relation] = bodies.map(<[u8]>::to_vec);
-    Yard {
-        expression,
-        chart,
-        labelling,
-        relation,
-    }
-}
-
 /// There and back: G's chart gives G's expression. The weighbridge's gives another
 /// one than its own, which makes an accepted file too.
 pub fn the_examples(calls: Calls) {
     let mut trial = Trial::of(calls);
-    let g = example("g.yard");
+    let g = yard(&of_the_repository("examples/g.yard"));
     let (_, table) = trial.lengths(&g, &"G");
     assert_eq!(table, g.expression);
 
-    let weighbridge = example("weighbridge.yard");
+    let weighbridge = yard(&of_the_repository("examples/weighbridge.yard"));
     let weighed = || {
         let typed = leaving(then(5, leaving(act(6))));
         Shape::star(act(3), then(4, typed))
