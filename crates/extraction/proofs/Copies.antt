@@ -37,7 +37,9 @@ copied-all {xs} {s} {t} {i} {n} C l g h =
     ext-getD 0 t (bytesWith (take n xs) s)
     (C .long ∙ sym (length-append (take n xs) (drop (length (take n xs)) s) ∙ omega (arith, C .within)))
     (λ k q. by-cases (decLt k n)
-    (λ a. C .copied k (omega arith) ∙ sym (List·getD-append (take n xs) (drop (length (take n xs)) s) 0 k (omega arith) ∙ getD-take n xs k 0 a))
+    (λ a.
+    C .copied k (omega arith)
+    ∙ sym (List·getD-append (take n xs) (drop (length (take n xs)) s) 0 k (omega arith) ∙ getD-take n xs k 0 a))
     (λ a.
     let e : length (take n xs) + (k - length (take n xs)) ≡ k = omega arith in
     C .kept k (omega arith)

@@ -34,7 +34,8 @@ use Rattle.expression.proofs.NodeBytes.{post-bytes}
 use Rattle.witness.specs.Labellings.{labelledOf}
 use Rattle.witness.proofs.Labellings.{labelled-long, labelled-says, labelled-iff-witness}
 use Rattle.extraction.specs.Extractions.{startText, textWritten, textLeft, extractedOf, extractedLeft}
-use Rattle.extraction.specs.ExtractionAnswers.{DrawnPasses, StartText, IsTable, ExtractionAnswer, other-chart, other-labels, too-many, too-short, written}
+use Rattle.extraction.specs.ExtractionAnswers.{DrawnPasses, StartText, IsTable, ExtractionAnswer}
+use Rattle.extraction.specs.ExtractionAnswers.{other-chart, other-labels, too-many, too-short, written}
 use Rattle.extraction.specs.Writers.{NodesOf, nodes, Wrote}
 use Rattle.extraction.proofs.NodeLaws.{nodes-end}
 use Rattle.extraction.proofs.WriterLaws.{has-written, has-not}
@@ -53,7 +54,8 @@ passed-long b labels e = by-cases (ℕ-discrete (length labels) (countOf b)) (λ
 abbrev TextGives : (x : Option Expr) (out : List ℕ) → Extracted → List ℕ → Type 0
 TextGives x out a t = (textWritten x (length out) ≡ a) × (textLeft x out ≡ t)
 
-text-too-short : (e : Expr) (out : List ℕ) → length out < 4 * size e → TextGives (some e) out (Refused (place.OutputLength (4 * size e))) out
+text-too-short : (e : Expr) (out : List ℕ) → length out < 4 * size e
+    → TextGives (some e) out (Refused (place.OutputLength (4 * size e))) out
 text-too-short e out h = rw (lt-ltb (length out) (4 * size e) h) (refl, refl)
 
 text-fits : (e : Expr) (out : List ℕ) → 4 * size e ≤ length out → TextGives (some e) out (Length (4 * size e)) (bytesWith (tableOf e) out)
@@ -65,7 +67,8 @@ module _ (b labels out : List ℕ) where
   unfolding extractedOf extractedLeft
   refused-chart e = rw e (refl, refl)
 
-  refused-labels : {p : Place} → checkOf b ≡ stage.Passed → labelledOf b labels ≡ labelled.Refused p → ExtractionGives b labels out (Refused p) out
+  refused-labels : {p : Place} → checkOf b ≡ stage.Passed → labelledOf b labels ≡ labelled.Refused p
+      → ExtractionGives b labels out (Refused p) out
   unfolding extractedOf extractedLeft
   refused-labels e f = rw (e, f) (refl, refl)
 
@@ -125,7 +128,8 @@ module _ (b labels out : List ℕ) {s t : List ℕ} {r : ℕ} (W : Wrote (Text (
       let (e, q, z, p) = text-is n in
       let (x, y) = text-fits e out (rw z at h) in
       let g : take (4 * size e) t ≡ tableOf e = post-bytes t e (omega (arith, few-nodes W n)) (nodes-post p .1) in
-      rw q (ap (λ (k : ℕ). Length (4 * k)) z ∙ sym x, f ∙ ap (λ (k : ℕ). bytesWith (take (4 * k) t) out) z ∙ ap (λ (v : List ℕ). bytesWith v out) g ∙ sym y)
+      let i = ap (λ (k : ℕ). bytesWith (take (4 * k) t) out) z ∙ ap (λ (v : List ℕ). bytesWith v out) g in
+      rw q (ap (λ (k : ℕ). Length (4 * k)) z ∙ sym x, f ∙ i ∙ sym y)
 
 -- EACH ANSWER, both ways
 module _ (b labels out : List ℕ) (B : Bytes labels) where
@@ -170,11 +174,13 @@ module _ (b labels out : List ℕ) (B : Bytes labels) where
       (λ l. (Refused (place.OutputLength (4 * size e)), out, too-short P t (omega arith) l))
       (λ l. (Length (4 * size e), bytesWith (tableOf e) out, written P t (omega arith) (omega arith) (text-table b labels (P .chart) e t))))
 
-  some-labels : (c : checkOf b ≡ stage.Passed) (a : Labelled) → labelledOf b labels ≡ a → (x : Extracted) × (t : List ℕ) × ExtractionAnswer b labels out x t
+  some-labels : (c : checkOf b ≡ stage.Passed) (a : Labelled) → labelledOf b labels ≡ a
+      → (x : Extracted) × (t : List ℕ) × ExtractionAnswer b labels out x t
   some-labels c (labelled.Passed n) e =
       let (l, r, w) = labelled-iff-witness b labels c B .0 (n, e) in
       some-text (record { chart = well-formed b c; long = l; reaches = r; witness = w })
-  some-labels c (labelled.Refused p) e = (Refused p, out, other-labels (well-formed b c) (labelled-says b labels c B (labelled.Refused p) .0 e))
+  some-labels c (labelled.Refused p) e =
+      (Refused p, out, other-labels (well-formed b c) (labelled-says b labels c B (labelled.Refused p) .0 e))
 
   some-answer : (x : Extracted) × (t : List ℕ) × ExtractionAnswer b labels out x t
   some-answer = go (checkOf b) refl

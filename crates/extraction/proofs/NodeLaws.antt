@@ -136,7 +136,8 @@ timed-alone {l} {next} {s} g = record { kept = kept-all; item = item }
     item a none e n = let z : suc l ≡ next = omega arith in subst (NodesOf (node s) l (some (act a))) z (nodes (leaf-at e))
     item a (some f) e n = absurd (omega (arith, nodes-end (some f) n, size-some f))
 
-pub timed-text : {l next : ℕ} {s t : List ℕ} → l < next → l + 1 ≢ next → Put next (parse next 3 0 l (next - 1)) s t → Timed l next s t (next + 1)
+pub timed-text : {l next : ℕ} {s t : List ℕ} → l < next → l + 1 ≢ next → Put next (parse next 3 0 l (next - 1)) s t
+    → Timed l next s t (next + 1)
 timed-text {l} {next} {s} {t} h g P = record { kept = P .kept; item = item }
   where
     item : (a : ℕ) (y : Option Expr) → node s l ≡ leaf a → NodesOf (node s) (suc l) y next

@@ -115,12 +115,16 @@ pub record PartOfVertex (b labels : List ℕ) (w : ℕ) (part marks : List ℕ) 
   pub before : (k : ℕ) → k < from → fromOf b k ≢ w
   pub after : (k : ℕ) → from + length marks ≤ k → k < countOf b → fromOf b k ≢ w
 
+-- it is a number of the table of where transitions begin
+pub vertex-low : {b labels begins : List ℕ} {w : ℕ} → Given b labels begins → w < verticesOf b → w < 128
+vertex-low {b} G l = omega (arith, well-formed b (G .passed) .header .vertices-high)
+
 pub part-of-vertex : {b labels begins : List ℕ} {w : ℕ} {part : List ℕ} → Bytes b → Given b labels begins → w < verticesOf b
     → part ≡ leavingOf b w
     → PartOfVertex b labels w part (take (getD begins (w + 1) 0 - getD begins w 0) (drop (getD begins w 0) labels)) (getD begins w 0)
 part-of-vertex {b} {labels} {begins} {w} {part} B G l e =
     let W = well-formed b (G .passed) in
-    let R = begins-range (G .of-begins) w (omega (arith, W .header .vertices-high)) in
+    let R = begins-range (G .of-begins) w (vertex-low G l) in
     let S = looked-up b w B (G .passed) e in
     let many = beside-long S R labels (omega (arith, G .long)) in
     let at : S .at ≡ getD begins w 0 = split-one (S .begins) (R .begins) in
@@ -130,8 +134,8 @@ part-of-vertex {b} {labels} {begins} {w} {part} B G l e =
       whole = omega (arith, S .whole, many);
       within = omega (arith, S .ends .within, many, at);
       leaves = λ i h. subst (λ (k : ℕ). fromOf b (k + i) ≡ w) at (part-leaves S i (omega (arith, many)));
-      action = λ i h. subst (λ (k : ℕ). getD part (4 * i + 1) 0 ≡ actionOf b (k + i)) at (part-byte S i 1 (omega (arith, many)) (omega arith));
-      to = λ i h. subst (λ (k : ℕ). getD part (4 * i + 2) 0 ≡ toOf b (k + i)) at (part-byte S i 2 (omega (arith, many)) (omega arith));
+      action = λ i h. part-byte S i 1 (omega (arith, many)) (omega arith) ∙ ap (λ (k : ℕ). actionOf b (k + i)) at;
+      to = λ i h. part-byte S i 2 (omega (arith, many)) (omega arith) ∙ ap (λ (k : ℕ). toOf b (k + i)) at;
       label = λ i h. beside-byte S R labels i (omega (arith, many)) ∙ ap (λ (k : ℕ). getD labels (k + i) 0) at;
       before = λ k h. at-low (R .begins) (R .ends) k h;
       after = λ k h g. at-high (R .begins) (R .ends) k (omega (arith, many, at, end)) g;
@@ -161,17 +165,20 @@ module _ {b labels : List ℕ} {w : ℕ} {part marks : List ℕ} {from : ℕ} (P
   sum-after {back} {half} {x} zero s l = subst (λ (k : ℕ). Sum (drawnOf b labels) half w back k x) (omega arith) s
   sum-after {back} {half} {x} (suc k) s l =
       let z : suc (from + length marks + k) ≡ from + length marks + suc k = omega arith in
+      let n = P .after (from + length marks + k) (omega arith) (omega arith) in
       subst (λ (k : ℕ). Sum (drawnOf b labels) half w back k x) z
-      (other (sum-after k s (omega arith)) (not-in half (from + length marks + k) (P .after (from + length marks + k) (omega arith) (omega arith))))
+      (other (sum-after k s (omega arith)) (not-in half (from + length marks + k) n))
 
-  whole-sum : {back : ℕ} {half : Half} {x : Option Expr} → Sum (drawnOf b labels) half w back (from + length marks) x → Sum (drawnOf b labels) half w back (countOf b) x
+  whole-sum : {back : ℕ} {half : Half} {x : Option Expr} → Sum (drawnOf b labels) half w back (from + length marks) x
+      → Sum (drawnOf b labels) half w back (countOf b) x
   whole-sum {back} {half} {x} s =
       let l = P .within in
       let z : from + length marks + (countOf b - (from + length marks)) ≡ countOf b = omega arith in
       subst (λ (k : ℕ). Sum (drawnOf b labels) half w back k x) z (sum-after (countOf b - (from + length marks)) s (omega arith))
 
 -- A SUM IN THE MAKING: that of the first i transitions of the part
-pub record SumAt (b labels : List ℕ) (half : Half) (w back : ℕ) (part marks : List ℕ) (from count limit : ℕ) (s₀ s : List ℕ) (at i : ℕ) : Type 0 where
+pub record SumAt (b labels : List ℕ) (half : Half) (w back : ℕ) (part marks : List ℕ) (from count limit : ℕ) (s₀ s : List ℕ)
+    (at i : ℕ) : Type 0 where
   pub vertex : PartOfVertex b labels w part marks from
   pub long : length s ≡ 508
   pub low : limit ≤ 127
@@ -201,6 +208,9 @@ module _ {b labels : List ℕ} {half : Half} {w back : ℕ} {part marks : List �
     (A : SumAt b labels half w back part marks from count limit s₀ s at i) where
   pub in-part : {n : ℕ} → n ≡ length marks → i < n → i < length marks
   in-part e l = omega arith
+
+  pub few-items : {n : ℕ} → n ≡ length marks → i < n → i < 8192
+  few-items e l = omega (arith, A .vertex .within, A .vertex .formed .header .count-high)
 
   -- the next place
   next-sum : {x : Option Expr} → Sum (drawnOf b labels) half w back (suc (from + i)) x
@@ -289,9 +299,13 @@ module _ {b labels : List ℕ} {half : Half} {w back : ℕ} {part marks : List �
     pub product-room : (at < next) × (next ≤ 127) × (suc at < next → next < 127)
     product-room = go (F .rest) (F .stand) (F .room)
       where
-        go : (y : Option Expr) → NodesOf (node s₂) (at + 1) y next → next + joinNode y ≤ end → (at < next) × (next ≤ 127) × (suc at < next → next < 127)
+        go : (y : Option Expr) → NodesOf (node s₂) (at + 1) y next → next + joinNode y ≤ end
+            → (at < next) × (next ≤ 127) × (suc at < next → next < 127)
         go none n g = let e = nodes-end none n in (omega arith, omega (arith, I .sum .low), λ k. omega (arith, k))
-        go (some d) n g = let e = nodes-end (some d) n in let r = I .room in (omega arith, omega (arith, I .sum .low), λ k. omega (arith, I .sum .low))
+        go (some d) n g =
+            let e = nodes-end (some d) n in
+            let low = I .sum .low in
+            (omega arith, omega (arith, I .room), λ k. omega (arith, I .room))
 
     module _ {s₃ : List ℕ} {after-item : ℕ} (T : Timed at next s₂ s₃ after-item) where
       item-stands : NodesOf (node s₃) at (some item-is) after-item
@@ -321,7 +335,9 @@ module _ {b labels : List ℕ} {half : Half} {w back : ℕ} {part marks : List �
       pub sum-item : {s₄ : List ℕ} {at′ : ℕ} → Added count at after-item s₃ s₄ at′
           → SumAt b labels half w back part marks from count limit s₀ s₄ at′ (i + 1)
       sum-item {s₄} {at′} D =
-          let before = nodes-same (I .sum .items) (λ k q. T .kept .same k (omega (arith, product-room .0)) ∙ F .kept .same k (omega arith) ∙ U .kept .same k q) (I .sum .stand) in
+          let n = product-room .0 in
+          let before = nodes-same (I .sum .items)
+          (λ k q. T .kept .same k (omega arith) ∙ F .kept .same k (omega arith) ∙ U .kept .same k q) (I .sum .stand) in
           let all = D .sum (I .sum .items) item-is before item-stands in
           record {
             vertex = I .sum .vertex;
@@ -387,7 +403,8 @@ module _ {b labels : List ℕ} {half : Half} {w back : ℕ} {part marks : List �
       }
 
 -- NO ROOM, whatever was done
-pub no-room : {P : Expr → Type 0} {b limit : ℕ} {s t : List ℕ} → KeptBelow b s t → ((e : Expr) → P e → limit < b + size e) → Wrote P b limit s t 128
+pub no-room : {P : Expr → Type 0} {b limit : ℕ} {s t : List ℕ} → KeptBelow b s t → ((e : Expr) → P e → limit < b + size e)
+    → Wrote P b limit s t 128
 no-room K f = record { kept = K; said = inr (refl, f) }
 
 pub full-at-end : {c : LabelledChart} {half : Half} {w back count at limit : ℕ} → count ≤ at → at ≤ count → limit ≤ at
@@ -403,11 +420,18 @@ module _ {P : Expr → Type 0} {b limit : ℕ} {s t : List ℕ} {r : ℕ} (low :
   has-not e = ⊎-elim (λ (f, p, n, l). absurd (omega arith)) (λ (q, f). f) (W .said)
 
 -- the target's text, after its action
-pub text-after : {c : LabelledChart} {target back i at end r next : ℕ} {s t u : List ℕ} → target ≡ c .chart .to i → end ≤ 127 → target ≢ back → at < end
+pub text-after : {c : LabelledChart} {target back i at end r next : ℕ} {s t u : List ℕ}
+    → target ≡ c .chart .to i → end ≤ 127 → target ≢ back → at < end
     → Wrote (Text c target back) (at + 1) (end - 1) s u r → r ≢ 128 → t ≡ u → next ≡ r → AfterAt c back i at end s t next
 text-after {c} {back = back} q low n l W k f g =
     let (e, p, x, a) = has-written (omega arith) W k in
-    rw (f, g) (record { rest = some e; is = by-text (λ z. n (q ∙ z)) (subst (λ (v : ℕ). Text c v back e) q p); kept = W .kept; stand = x; room = omega arith })
+    rw (f, g) (record {
+      rest = some e;
+      is = by-text (λ z. n (q ∙ z)) (subst (λ (v : ℕ). Text c v back e) q p);
+      kept = W .kept;
+      stand = x;
+      room = omega arith;
+    })
 
 -- TEXTS
 -- the test that a text can be written

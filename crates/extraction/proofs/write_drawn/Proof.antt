@@ -18,16 +18,31 @@ enum-told c = search needs
 
 write-labelled-requires : tie.Need-write-labelled-requires
 write-labelled-requires c κs =
-    record { passed = c .before .before .before .before .before .before .before .before .before .before .pre; of-begins = c .before .before .before .before .before .before .begins .ensures; long = passed-long (c .before .before .before .before .before .before .before .before .before .before .args .chart .now) (c .before .before .before .before .before .before .before .before .before .before .args .labels .now) (sym (c .before .before .enum-told .given .1) ∙ c .before .before .before .before .check-all .ensures) }
+    let m = c .before .before .before .before in
+    let b = m .before .before in
+    let e = b .before .before .before .before in
+    record {
+      passed = e .pre;
+      of-begins = b .begins .ensures;
+      long = passed-long (e .args .chart .now) (e .args .labels .now)
+          (sym (c .before .before .enum-told .given .1) ∙ m .check-all .ensures);
+    }
 
 returns : tie.Need-returns
-returns c = labels-told _ _ _ (c .before .before .before .before .before .before .before .before .before .pre) ((cc) ∙ c .before .before .before .check-all .ensures)
+returns c =
+    let m = c .before .before .before in
+    let e = m .before .before .before .before .before .before in
+    labels-told _ _ _ (e .pre) ((cc) ∙ m .check-all .ensures)
 
 same-length : tie.Need-same-length
 same-length c = search needs
 
 returns-2 : tie.Need-returns-2
-returns-2 c = text-told _ _ _ (c .before .before .before .before .before .before .before .before .before .before .before .before .before .pre) (sym (c .before .before .before .before .before .enum-told .given .1) ∙ c .before .before .before .before .before .before .before .check-all .ensures) (c .before .before .write-labelled .ensures)
+returns-2 c =
+    let m = c .before .before .before .before .before .before .before in
+    let e = m .before .before .before .before .before .before in
+    text-told _ _ _ (e .pre) (sym (c .before .before .before .before .before .enum-told .given .1) ∙ m .check-all .ensures)
+    (c .before .before .write-labelled .ensures)
 
 pub write-drawn-spec : {M : Type 1} → statement M
 write-drawn-spec =

@@ -14,10 +14,10 @@ use Rattle.bits.specs.Bits.{Bytes}
 use Rattle.theory.proofs.TextTests.{size-some}
 use Rattle.chart.specs.Systems.{drawnOf}
 use Rattle.chart.proofs.Order.{begin-order, begin-high}
-use Rattle.chart.proofs.Checks.{well-formed}
 use Rattle.extraction.specs.Writers.{halfOf, LabelIn}
 use Rattle.extraction.proofs.NodeLaws.{kept-all, kept-both, nodes-end}
-use Rattle.extraction.proofs.WriterLaws.{AfterAt, nothing-after, text-after, SumAt, ItemAt, in-part, at-size, item-room}
+use Rattle.extraction.proofs.WriterLaws.{AfterAt, nothing-after, text-after, SumAt, ItemAt, in-part, few-items, at-size, item-room}
+use Rattle.extraction.proofs.WriterLaws.{vertex-low}
 use Rattle.extraction.proofs.WriterLaws.{part-of-vertex, sum-none, sum-over, sum-item, sum-done, sum-dead, target-low}
 use Rattle.extraction.proofs.WriterLaws.{after-long, product-room, sum-room, has-written, text-done, either-of, neither-of}
 use Rattle.extraction.proofs.WriterLaws.{no-room, has-not, full-at-action, full-at-text, full-at-end, no-text, no-left, no-right}
@@ -94,51 +94,50 @@ write-sum-part-of-requires : (t : ℕ)
     → write-sum-lts.Need-part-of-requires (sum-callees t) (write-sum-at t) write-sum.Post write-sum-Inv-loop write-sum-μ-loop
 write-sum-part-of-requires t c κs =
     let p = c .before .before .pre .1 in
-    (p .0 .passed, p .0 .of-begins, omega (arith, p .1, well-formed _ (p .0 .passed) .header .vertices-high))
+    (p .0 .passed, p .0 .of-begins, vertex-low (p .0) (p .1))
 
 write-sum-mul-from : (t : ℕ)
     → write-sum-lts.Need-mul-from (sum-callees t) (write-sum-at t) write-sum.Post write-sum-Inv-loop write-sum-μ-loop
 write-sum-mul-from t c =
-    let p = c .before .before .before .pre .1 in record { fits = omega (arith, p .1, well-formed _ (p .0 .passed) .header .vertices-high) }
+    let p = c .before .before .before .pre .1 in record { fits = omega (arith, vertex-low (p .0) (p .1)) }
 
 write-sum-element-copy-out-from : (t : ℕ)
     → write-sum-lts.Need-element-copy-out-from (sum-callees t) (write-sum-at t) write-sum.Post write-sum-Inv-loop write-sum-μ-loop
 write-sum-element-copy-out-from t c =
-    let p = c .before .before .before .pre .1 in omega (arith, p .1, well-formed _ (p .0 .passed) .header .vertices-high)
+    let p = c .before .before .before .pre .1 in omega (arith, vertex-low (p .0) (p .1))
 
 write-sum-add-to : (t : ℕ)
     → write-sum-lts.Need-add-to (sum-callees t) (write-sum-at t) write-sum.Post write-sum-Inv-loop write-sum-μ-loop
 write-sum-add-to t c =
-    let p = c .before .before .before .before .pre .1 in record { fits = omega (arith, p .1, well-formed _ (p .0 .passed) .header .vertices-high) }
+    let p = c .before .before .before .before .pre .1 in record { fits = omega (arith, vertex-low (p .0) (p .1)) }
 
 write-sum-mul-to : (t : ℕ)
     → write-sum-lts.Need-mul-to (sum-callees t) (write-sum-at t) write-sum.Post write-sum-Inv-loop write-sum-μ-loop
 write-sum-mul-to t c =
-    let p = c .before .before .before .before .pre .1 in record { fits = omega (arith, p .1, well-formed _ (p .0 .passed) .header .vertices-high) }
+    let p = c .before .before .before .before .pre .1 in record { fits = omega (arith, vertex-low (p .0) (p .1)) }
 
 write-sum-element-copy-out-to : (t : ℕ)
     → write-sum-lts.Need-element-copy-out-to (sum-callees t) (write-sum-at t) write-sum.Post write-sum-Inv-loop write-sum-μ-loop
 write-sum-element-copy-out-to t c =
-    let p = c .before .before .before .before .pre .1 in omega (arith, p .1, well-formed _ (p .0 .passed) .header .vertices-high)
+    let p = c .before .before .before .before .pre .1 in omega (arith, vertex-low (p .0) (p .1))
 
 write-sum-sub-marks : (t : ℕ)
     → write-sum-lts.Need-sub-marks (sum-callees t) (write-sum-at t) write-sum.Post write-sum-Inv-loop write-sum-μ-loop
 write-sum-sub-marks t c =
     let p = c .before .before .before .before .before .pre .1 in
-    begin-order (p .0 .of-begins) _ (omega (arith, p .1, well-formed _ (p .0 .passed) .header .vertices-high))
+    begin-order (p .0 .of-begins) _ (vertex-low (p .0) (p .1))
 
 write-sum-part-marks-start : (t : ℕ)
     → write-sum-lts.Need-part-marks-start (sum-callees t) (write-sum-at t) write-sum.Post write-sum-Inv-loop write-sum-μ-loop
 write-sum-part-marks-start t c =
     let p = c .before .before .before .before .before .pre .1 in
-    begin-order (p .0 .of-begins) _ (omega (arith, p .1, well-formed _ (p .0 .passed) .header .vertices-high))
+    begin-order (p .0 .of-begins) _ (vertex-low (p .0) (p .1))
 
 write-sum-part-marks-end : (t : ℕ)
     → write-sum-lts.Need-part-marks-end (sum-callees t) (write-sum-at t) write-sum.Post write-sum-Inv-loop write-sum-μ-loop
 write-sum-part-marks-end t c =
     let p = c .before .before .before .before .before .pre .1 in
-    let l = begin-high (p .0 .of-begins) (c .before .before .before .before .before .args .w) (omega (arith, p .1, well-formed _ (p .0 .passed) .header .vertices-high)) in
-    omega (arith, l, p .0 .long)
+    omega (arith, begin-high (p .0 .of-begins) (c .before .before .before .before .before .args .w) (vertex-low (p .0) (p .1)), p .0 .long)
 
 write-sum-loop-holds : (t : ℕ)
     → write-sum-lts.Need-loop-holds (sum-callees t) (write-sum-at t) write-sum.Post write-sum-Inv-loop write-sum-μ-loop
@@ -169,7 +168,8 @@ at-item : (t : ℕ)
     → let a = m .before .before .before .before .before .before .before .before .before .before .before .before .args in
     let from = getD (a .begins .now) (a .w) 0 in
     let loop = m .before .before .before .before .before .loop in
-    ItemAt (a .chart .now) (a .labels .now) (halfOf (a .entries)) (a .w) (a .back) (m .before .before .before .before .before .before .before .before .before .part-of .result .now)
+    let part = m .before .before .before .before .before .before .before .before .before .part-of .result .now in
+    ItemAt (a .chart .now) (a .labels .now) (halfOf (a .entries)) (a .w) (a .back) part
     (take (getD (a .begins .now) (a .w + 1) 0 - from) (drop from (a .labels .now))) from (a .count) (a .limit)
     (a .nodes .now) (loop .nodes) (loop .at) (loop .i) (m .item-limit .result)
 at-item t m =
@@ -178,7 +178,8 @@ at-item t m =
     record {
       sum = i .1;
       inside = in-part (i .1) (i .0) (m .before .before .before .before .loop-test .taken);
-      mine = subst (LabelIn half) (m .before .before .before .byte .ensures .0) (m .before .before .in-half .ensures .0 (m .before .if1 .taken));
+      mine = subst (LabelIn half) (m .before .before .before .byte .ensures .0)
+          (m .before .before .in-half .ensures .0 (m .before .if1 .taken));
       room = item-room (i .1) (m .item-limit .ensures);
     }
 
@@ -192,13 +193,13 @@ write-sum-mul-put-node : (t : ℕ)
     → write-sum-lts.Need-mul-put-node (sum-callees t) (write-sum-at t) write-sum.Post write-sum-Inv-loop write-sum-μ-loop
 write-sum-mul-put-node t c =
     let i = c .before .before .before .before .before .before .before .loop .inv in
-    record { fits = omega (arith, i .0, c .before .before .before .before .before .before .loop-test .taken, i .1 .vertex .within, i .1 .vertex .formed .header .count-high) }
+    record { fits = omega (arith, few-items (i .1) (i .0) (c .before .before .before .before .before .before .loop-test .taken)) }
 
 write-sum-add-put-node : (t : ℕ)
     → write-sum-lts.Need-add-put-node (sum-callees t) (write-sum-at t) write-sum.Post write-sum-Inv-loop write-sum-μ-loop
 write-sum-add-put-node t c =
     let i = c .before .before .before .before .before .before .before .loop .inv in
-    record { fits = omega (arith, i .0, c .before .before .before .before .before .before .loop-test .taken, i .1 .vertex .within, i .1 .vertex .formed .header .count-high) }
+    record { fits = omega (arith, few-items (i .1) (i .0) (c .before .before .before .before .before .before .loop-test .taken)) }
 
 write-sum-shared-slice-read-put-node : (t : ℕ)
     → write-sum-lts.Need-shared-slice-read-put-node (sum-callees t) (write-sum-at t) write-sum.Post write-sum-Inv-loop write-sum-μ-loop
@@ -216,13 +217,13 @@ write-sum-mul-byte : (t : ℕ)
     → write-sum-lts.Need-mul-byte (sum-callees t) (write-sum-at t) write-sum.Post write-sum-Inv-loop write-sum-μ-loop
 write-sum-mul-byte t c =
     let i = c .before .before .before .before .before .before .before .before .before .loop .inv in
-    record { fits = omega (arith, i .0, c .before .before .before .before .before .before .before .before .loop-test .taken, i .1 .vertex .within, i .1 .vertex .formed .header .count-high) }
+    record { fits = omega (arith, few-items (i .1) (i .0) (c .before .before .before .before .before .before .before .before .loop-test .taken)) }
 
 write-sum-add-byte : (t : ℕ)
     → write-sum-lts.Need-add-byte (sum-callees t) (write-sum-at t) write-sum.Post write-sum-Inv-loop write-sum-μ-loop
 write-sum-add-byte t c =
     let i = c .before .before .before .before .before .before .before .before .before .loop .inv in
-    record { fits = omega (arith, i .0, c .before .before .before .before .before .before .before .before .loop-test .taken, i .1 .vertex .within, i .1 .vertex .formed .header .count-high) }
+    record { fits = omega (arith, few-items (i .1) (i .0) (c .before .before .before .before .before .before .before .before .loop-test .taken)) }
 
 write-sum-byte-requires-2 : (t : ℕ)
     → write-sum-lts.Need-byte-requires-2 (sum-callees t) (write-sum-at t) write-sum.Post write-sum-Inv-loop write-sum-μ-loop
@@ -233,12 +234,14 @@ write-sum-byte-requires-2 t c κs =
 write-sum-add-next : (t : ℕ)
     → write-sum-lts.Need-add-next (sum-callees t) (write-sum-at t) write-sum.Post write-sum-Inv-loop write-sum-μ-loop
 write-sum-add-next t c =
-    let i = c .before .before .before .before .before .before .before .before .before .before .loop .inv .1 in record { fits = omega (arith, i .room, i .low) }
+    let i = c .before .before .before .before .before .before .before .before .before .before .loop .inv .1 in
+    record { fits = omega (arith, i .room, i .low) }
 
 write-sum-add-write-text : (t : ℕ)
     → write-sum-lts.Need-add-write-text (sum-callees t) (write-sum-at t) write-sum.Post write-sum-Inv-loop write-sum-μ-loop
 write-sum-add-write-text t c =
-    let i = c .before .before .before .before .before .before .before .before .before .before .before .before .loop .inv .1 in record { fits = omega (arith, i .room, i .low) }
+    let i = c .before .before .before .before .before .before .before .before .before .before .before .before .loop .inv .1 in
+    record { fits = omega (arith, i .room, i .low) }
 
 write-sum-sub-write-text : (t : ℕ)
     → write-sum-lts.Need-sub-write-text (sum-callees t) (write-sum-at t) write-sum.Post write-sum-Inv-loop write-sum-μ-loop
@@ -274,10 +277,12 @@ write-sum-returns-2 t c =
     let I = at-item t m in
     let A = I .sum in
     let W = c .before .write-text .ensures in
-    let to = c .before .before .before .before .byte2 .ensures .0 ∙ A .vertex .to (m .before .before .before .before .before .loop .i) (I .inside) in
-    no-room
-    (kept-both (omega (arith, at-size A)) (A .kept) (kept-both (omega arith) (c .before .before .before .before .before .put-node .ensures .kept) (W .kept)))
-    (full-at-text I to (c .before .before .before .if3 .taken) (omega (arith, c .before .before .before .before .before .before .before .before .if2 .left))
+    let U = c .before .before .before .before .before .put-node .ensures in
+    let i = m .before .before .before .before .before .loop .i in
+    let to = c .before .before .before .before .byte2 .ensures .0 ∙ A .vertex .to i (I .inside) in
+    let l = c .before .before .before .before .before .before .before .before .if2 .left in
+    no-room (kept-both (omega (arith, at-size A)) (A .kept) (kept-both (omega arith) (U .kept) (W .kept)))
+    (full-at-text I to (c .before .before .before .if3 .taken) (omega arith)
     (has-not (omega (arith, I .room, A .low)) W (c .if4 .taken)))
 
 -- what follows the action, whichever way it went
@@ -285,11 +290,13 @@ after-action : (t : ℕ)
     (c : write-sum-lts.Joined3 (sum-callees t) (write-sum-at t) write-sum.Post write-sum-Inv-loop write-sum-μ-loop)
     → let m = c .before .before .before .before .before .before in
     let a = m .before .before .before .before .before .before .before .before .before .before .before .before .args in
-    AfterAt (drawnOf (a .chart .now) (a .labels .now)) (a .back) (getD (a .begins .now) (a .w) 0 + m .before .before .before .before .before .loop .i)
-    (m .before .before .before .before .before .loop .at) (m .item-limit .result) (c .before .before .put-node .last .0) (c .if3 .nodes) (c .if3 .next)
+    let loop = m .before .before .before .before .before .loop in
+    AfterAt (drawnOf (a .chart .now) (a .labels .now)) (a .back) (getD (a .begins .now) (a .w) 0 + loop .i) (loop .at)
+    (m .item-limit .result) (c .before .before .put-node .last .0) (c .if3 .nodes) (c .if3 .next)
 after-action t c =
     let I = at-item t (c .before .before .before .before .before .before) in
-    let to = c .before .byte2 .ensures .0 ∙ I .sum .vertex .to (c .before .before .before .before .before .before .before .before .before .before .before .loop .i) (I .inside) in
+    let i = c .before .before .before .before .before .before .before .before .before .before .before .loop .i in
+    let to = c .before .byte2 .ensures .0 ∙ I .sum .vertex .to i (I .inside) in
     let l = c .before .before .before .before .before .if2 .left in
     ⊎-elim
     (λ v. text-after to (omega (arith, I .room, I .sum .low)) (v .0 .taken) (omega arith) (v .2 .ensures) (v .3 .left) (v .4) (v .5))
@@ -308,13 +315,15 @@ write-sum-put-product-requires t c κs =
 write-sum-put-sum-requires : (t : ℕ)
     → write-sum-lts.Need-put-sum-requires (sum-callees t) (write-sum-at t) write-sum.Post write-sum-Inv-loop write-sum-μ-loop
 write-sum-put-sum-requires t c κs =
-    sum-room (at-item t (c .before .before .before .before .before .before .before .before .before)) (c .before .before .before .before .before .put-node .ensures) (after-action t (c .before .before .before)) (c .before .put-product .ensures)
+    let I = at-item t (c .before .before .before .before .before .before .before .before .before) in
+    let U = c .before .before .before .before .before .put-node .ensures in
+    sum-room I U (after-action t (c .before .before .before)) (c .before .put-product .ensures)
 
 write-sum-add-i : (t : ℕ)
     → write-sum-lts.Need-add-i (sum-callees t) (write-sum-at t) write-sum.Post write-sum-Inv-loop write-sum-μ-loop
 write-sum-add-i t c =
     let i = c .before .before .before .before .loop .inv in
-    record { fits = omega (arith, i .0, c .before .before .before .loop-test .taken, i .1 .vertex .within, i .1 .vertex .formed .header .count-high) }
+    record { fits = omega (arith, few-items (i .1) (i .0) (c .before .before .before .loop-test .taken)) }
 
 write-sum-loop-less : (t : ℕ)
     → write-sum-lts.Need-loop-less (sum-callees t) (write-sum-at t) write-sum.Post write-sum-Inv-loop write-sum-μ-loop
@@ -374,8 +383,9 @@ write-sum-returns-5 : (t : ℕ)
     → write-sum-lts.Need-returns-5 (sum-callees t) (write-sum-at t) write-sum.Post write-sum-Inv-loop write-sum-μ-loop
 write-sum-returns-5 t c =
     let i = c .before .before .before .before .before .loop .inv in
-    sum-dead (i .1) (omega (arith, i .0, c .before .before .before .before .loop-test .left)) (omega (arith, c .before .before .before .if5 .left))
-    (omega (arith, c .before .before .if6 .left)) (c .put-node2 .ensures)
+    let h = c .before .before .before .before .loop-test .left in
+    sum-dead (i .1) (omega (arith, i .0)) (omega (arith, c .before .before .before .if5 .left)) (omega (arith, c .before .before .if6 .left))
+    (c .put-node2 .ensures)
 
 write-text-add-if1 : (t : ℕ) → write-text-lts.Need-add-if1 (text-callees t) (write-text-at t) write-text.Post
 write-text-add-if1 t c =
@@ -389,14 +399,16 @@ write-text-sub-write-sum : (t : ℕ) → write-text-lts.Need-sub-write-sum (text
 write-text-sub-write-sum t c =
     let e = c .before .before .before .before in
     let p = e .pre .1 in
-    let k = neither-of (e .args .w) (e .args .count) (e .args .limit) (c .before .if1 .left) in
+    let h = c .before .if1 .left in
+    let k = neither-of (e .args .w) (e .args .count) (e .args .limit) h in
     omega (arith, k .1)
 
 write-text-write-sum-requires : (t : ℕ) → write-text-lts.Need-write-sum-requires (text-callees t) (write-text-at t) write-text.Post
 write-text-write-sum-requires t c κs =
     let e = c .before .before .before .before in
     let p = e .pre .1 in
-    let k = neither-of (e .args .w) (e .args .count) (e .args .limit) (c .before .if1 .left) in (
+    let h = c .before .if1 .left in
+    let k = neither-of (e .args .w) (e .args .count) (e .args .limit) h in (
       omega (arith, e .pre .0, k .1),
       (
         p .0,
@@ -416,15 +428,18 @@ write-text-sub-write-sum-2 : (t : ℕ) → write-text-lts.Need-sub-write-sum-2 (
 write-text-sub-write-sum-2 t c =
     let e = c .before .before .before .before .before .before .before in
     let p = e .pre .1 in
-    let k = neither-of (e .args .w) (e .args .count) (e .args .limit) (c .before .before .before .before .if1 .left) in
+    let h = c .before .before .before .before .if1 .left in
+    let k = neither-of (e .args .w) (e .args .count) (e .args .limit) h in
     omega (arith, k .1)
 
 write-text-write-sum-requires-2 : (t : ℕ) → write-text-lts.Need-write-sum-requires-2 (text-callees t) (write-text-at t) write-text.Post
 write-text-write-sum-requires-2 t c κs =
     let e = c .before .before .before .before .before .before .before in
     let p = e .pre .1 in
-    let k = neither-of (e .args .w) (e .args .count) (e .args .limit) (c .before .before .before .before .if1 .left) in
-    let L = has-written (omega (arith, p .2 .within)) (c .before .before .write-sum .ensures) (c .before .if2 .left) in
+    let h = c .before .before .before .before .if1 .left in
+    let k = neither-of (e .args .w) (e .args .count) (e .args .limit) h in
+    let left = c .before in
+    let L = has-written (omega (arith, p .2 .within)) (left .before .write-sum .ensures) (left .if2 .left) in
     let f = nodes-end (some (L .0)) (L .2) in (
       omega (arith, e .pre .0, k .1, f, L .3),
       (
@@ -442,7 +457,8 @@ write-text-write-sum-requires-2 t c κs =
 write-text-returns-3 : (t : ℕ) → write-text-lts.Need-returns-3 (text-callees t) (write-text-at t) write-text.Post
 write-text-returns-3 t c =
     let p = c .before .before .before .before .before .before .before .before .before .pre .1 in
-    let L = has-written (omega (arith, p .2 .within)) (c .before .before .before .before .write-sum .ensures) (c .before .before .before .if2 .left) in
+    let left = c .before .before .before in
+    let L = has-written (omega (arith, p .2 .within)) (left .before .write-sum .ensures) (left .if2 .left) in
     let f = nodes-end (some (L .0)) (L .2) in
     let W = c .before .before .before .before .write-sum .ensures in
     let X = c .before .write-sum2 .ensures in
@@ -452,14 +468,16 @@ write-text-returns-3 t c =
 write-text-sub-put-node : (t : ℕ) → write-text-lts.Need-sub-put-node (text-callees t) (write-text-at t) write-text.Post
 write-text-sub-put-node t c =
     let p = c .before .before .before .before .before .before .before .before .before .before .pre .1 in
-    let L = has-written (omega (arith, p .2 .within)) (c .before .before .before .before .before .write-sum .ensures) (c .before .before .before .before .if2 .left) in
+    let left = c .before .before .before .before in
+    let L = has-written (omega (arith, p .2 .within)) (left .before .write-sum .ensures) (left .if2 .left) in
     let f = nodes-end (some (L .0)) (L .2) in
     omega (arith, f, size-some (L .0))
 
 write-text-sub-put-node-2 : (t : ℕ) → write-text-lts.Need-sub-put-node-2 (text-callees t) (write-text-at t) write-text.Post
 write-text-sub-put-node-2 t c =
     let p = c .before .before .before .before .before .before .before .before .before .before .pre .1 in
-    let R = has-written (omega (arith, p .2 .within)) (c .before .before .write-sum2 .ensures) (c .before .if3 .left) in
+    let right = c .before in
+    let R = has-written (omega (arith, p .2 .within)) (right .before .write-sum2 .ensures) (right .if3 .left) in
     let g = nodes-end (some (R .0)) (R .2) in
     omega (arith, g, size-some (R .0))
 
@@ -467,12 +485,15 @@ write-text-put-node-requires : (t : ℕ) → write-text-lts.Need-put-node-requir
 write-text-put-node-requires t c κs =
     let e = c .before .before .before .before .before .before .before .before .before .before in
     let p = e .pre .1 in
-    let k = neither-of (e .args .w) (e .args .count) (e .args .limit) (c .before .before .before .before .before .before .before .if1 .left) in
-    let L = has-written (omega (arith, p .2 .within)) (c .before .before .before .before .before .write-sum .ensures) (c .before .before .before .before .if2 .left) in
+    let h = c .before .before .before .before .before .before .before .if1 .left in
+    let k = neither-of (e .args .w) (e .args .count) (e .args .limit) h in
+    let left = c .before .before .before .before in
+    let L = has-written (omega (arith, p .2 .within)) (left .before .write-sum .ensures) (left .if2 .left) in
     let f = nodes-end (some (L .0)) (L .2) in
-    let R = has-written (omega (arith, p .2 .within)) (c .before .before .write-sum2 .ensures) (c .before .if3 .left) in
+    let right = c .before in
+    let R = has-written (omega (arith, p .2 .within)) (right .before .write-sum2 .ensures) (right .if3 .left) in
     let g = nodes-end (some (R .0)) (R .2) in (
-      c .before .before .write-sum2 .ensures .kept .long ∙ c .before .before .before .before .before .write-sum .ensures .kept .long ∙ p .2 .long,
+      right .before .write-sum2 .ensures .kept .long ∙ left .before .write-sum .ensures .kept .long ∙ p .2 .long,
       omega (arith, R .3, p .2 .within, k .1),
       omega (arith, L .3, p .2 .within),
       omega (arith, R .3, p .2 .within),
@@ -481,7 +502,8 @@ write-text-put-node-requires t c κs =
 write-text-add-result : (t : ℕ) → write-text-lts.Need-add-result (text-callees t) (write-text-at t) write-text.Post
 write-text-add-result t c =
     let p = c .before .before .before .before .before .before .before .before .before .before .before .pre .1 in
-    let R = has-written (omega (arith, p .2 .within)) (c .before .before .before .write-sum2 .ensures) (c .before .before .if3 .left) in
+    let right = c .before .before in
+    let R = has-written (omega (arith, p .2 .within)) (right .before .write-sum2 .ensures) (right .if3 .left) in
     let g = nodes-end (some (R .0)) (R .2) in
     record { fits = omega (arith, R .3, p .2 .within) }
 
@@ -489,9 +511,12 @@ write-text-returns-4 : (t : ℕ) → write-text-lts.Need-returns-4 (text-callees
 write-text-returns-4 t c =
     let e = c .before .before .before .before .before .before .before .before .before .before .before in
     let p = e .pre .1 in
-    let k = neither-of (e .args .w) (e .args .count) (e .args .limit) (c .before .before .before .before .before .before .before .before .if1 .left) in
-    text-done _ _ _ (k .0) (p .2 .within) (k .1) (c .before .before .before .before .before .before .write-sum .ensures) (c .before .before .before .before .before .if2 .left)
-    (c .before .before .before .write-sum2 .ensures) (c .before .before .if3 .left) (c .put-node .ensures)
+    let h = c .before .before .before .before .before .before .before .before .if1 .left in
+    let k = neither-of (e .args .w) (e .args .count) (e .args .limit) h in
+    let left = c .before .before .before .before .before in
+    let right = c .before .before in
+    text-done _ _ _ (k .0) (p .2 .within) (k .1) (left .before .write-sum .ensures) (left .if2 .left)
+    (right .before .write-sum2 .ensures) (right .if3 .left) (c .put-node .ensures)
 
 pub +write-sum+write-text-spec : {M : Type 1} → statement M
 +write-sum+write-text-spec = close μ-write-sum μ-write-text (λ t. write-sum-lts.spec (sum-callees t)
