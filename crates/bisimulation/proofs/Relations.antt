@@ -111,7 +111,8 @@ abbrev pub vertexSystem : ℕ → (ℕ → ℕ → ℕ → Type 0) → System
 vertexSystem start S = record { State = ℕ; start = start; End = λ v. v ≡ 0; Step = S }
 
 module _ {S S′ T T′ : ℕ → ℕ → ℕ → Type 0} (s : (u a w : ℕ) → S u a w ↔ S′ u a w) (t : (u a w : ℕ) → T u a w ↔ T′ u a w) where
-  pub same-steps : (x y : ℕ) (R : ℕ → ℕ → Type 0) → Bisimulation (vertexSystem x S) (vertexSystem y T) R → Bisimulation (vertexSystem x S′) (vertexSystem y T′) R
+  pub same-steps : (x y : ℕ) (R : ℕ → ℕ → Type 0) → Bisimulation (vertexSystem x S) (vertexSystem y T) R
+      → Bisimulation (vertexSystem x S′) (vertexSystem y T′) R
   same-steps x y R B = record {
     starts = B .starts;
     ends = B .ends;

@@ -9,15 +9,15 @@ ghost use Rattle.expression.specs.Table.{kindOf, leftOf, rightOf, node, 
 ghost use Rattle.expression.specs.Uses.{bump, tally, Tallied, AtMost, onceIn};
 
 // Document 01's kinds of nodes.
-pub(crate) const DEADLOCK: usize = 0;
+pub const DEADLOCK: usize = 0;
 
-pub(crate) const ACTION: usize = 1;
+pub const ACTION: usize = 1;
 
-pub(crate) const SUM: usize = 2;
+pub const SUM: usize = 2;
 
-pub(crate) const PRODUCT: usize = 3;
+pub const PRODUCT: usize = 3;
 
-pub(crate) const STAR: usize = 4;
+pub const STAR: usize = 4;
 
 // 10: 1 to 127 nodes of four bytes.
 pub(crate) fn length_ok(nodes: &[u8]) -> bool

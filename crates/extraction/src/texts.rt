@@ -2,6 +2,11 @@
 // on and stay below `limit`: what is still to come after a text is set aside before it is written. So the number of nodes
 // that are left falls at each call, and a text that is too long is given up after 127 of them.
 use bits::byte;
+use expression::nodes::ACTION;
+use expression::nodes::DEADLOCK;
+use expression::nodes::PRODUCT;
+use expression::nodes::STAR;
+use expression::nodes::SUM;
 ghost use mathlib.Core.Path.{_≡_};
 ghost use mathlib.Core.Bool.{true};
 ghost use mathlib.Core.Logic.{_↔_};
@@ -17,24 +22,13 @@ ghost use Rattle.extraction.specs.Writers.{halfOf, LabelIn, NodeRoom, Pu
 // The next node where there is no room for a text.
 pub(crate) const NO_ROOM: usize = 128;
 
-// Document 01's kinds of nodes.
-const DEADLOCK: u8 = 0;
-
-const ACTION: u8 = 1;
-
-const SUM: u8 = 2;
-
-const PRODUCT: u8 = 3;
-
-const STAR: u8 = 4;
-
 // Node `at` of the table.
-fn put_node(nodes: &mut [u8; 508], at: usize, kind: u8, action: u8, left: usize, right: usize)
-    requires { ⌜ (length (now nodes) ≡ 508) × (at < 127) × (left < 128) × (right < 128) ⌝ }
+fn put_node(nodes: &mut [u8; 508], at: usize, kind: usize, action: u8, left: usize, right: usize)
+    requires { ⌜ (length (now nodes) ≡ 508) × (at < 127) × (kind < 5) × (left < 128) × (right < 128) ⌝ }
     ensures { λ _. ⌜ Put at (parse at kind action left right) (now (nodes .entry)) (now (nodes .exit)) ⌝ }
 {
     let p = 4 * at;
-    nodes[p] = kind;
+    nodes[p] = kind as u8;
     nodes[p + 1] = action;
     nodes[p + 2] = left as u8;
     nodes[p + 3] = right as u8;

@@ -11,7 +11,8 @@ use Rattle.theory.specs.PostOrders.{size, numberedFrom}
 use Rattle.theory.specs.TextTests as tests-of
 use Rattle.theory.specs.Tests as tests
 use Rattle.theory.specs.Reachability.{values, rounds, reaches}
-use Rattle.theory.specs.LabellingTests.{anyTest, loopTest, loopList, bodyTest, unreachedTest, cycleTest, notLowerTest, loopOutcome, failingTest, loopsOutcome, outcome}
+use Rattle.theory.specs.LabellingTests.{anyTest, loopTest, loopList, bodyTest, unreachedTest, cycleTest, notLowerTest}
+use Rattle.theory.specs.LabellingTests.{loopOutcome, failingTest, loopsOutcome, outcome}
 use Rattle.theory.proofs.PostOrders.{post-size}
 use Rattle.theory.proofs.TextTests.{one-text, fitting-iff}
 use Rattle.report.specs.declared.Numbers.{Numbers}
@@ -111,7 +112,8 @@ module _ (s b labels relation : List ℕ) where
       let q = length-append (recordOf 2 b) (recordOf 3 labels ++ recordOf 4 relation) in
       length-append (recordOf 1 s) (recordOf 2 b ++ (recordOf 3 labels ++ recordOf 4 relation)) ∙ omega arith
 
-  file-accepted : {l : ℕ} → nodes.checkOf s ≡ stage.Passed → chart.checkOf b ≡ stage.Passed → labelling.labelledOf b labels ≡ labelled.Passed l
+  file-accepted : {l : ℕ} → nodes.checkOf s ≡ stage.Passed → chart.checkOf b ≡ stage.Passed
+      → labelling.labelledOf b labels ≡ labelled.Passed l
       → relationOf (bodyOf s) b relation ≡ stage.Passed → length (fileOf s b labels relation) ≤ 43536
       → verdictOf (fileOf s b labels relation) ≡ Accepted (verticesOf b) (countOf b) l
   file-accepted {l} n c p r short =
@@ -145,7 +147,17 @@ of-written b labels out B n t g = go (wrote (meant (Length n) B g))
         let k : nodes.checkOf s ≡ stage.Passed = rw q (texts.text-passes b labels W e (w .is-text) (w .few)) in
         let rows = relation-iff-bisimulation (bodyOf s) b r .0 x .0 in
         let short : length (fileOf s b labels r) ≤ 43536 =
-        omega (arith, file-long s b labels r, T .long, w .few, W .header .whole, W .header .count-high, P .long, rows, body-vertices s, node-count s (T .long)) in
+        omega (
+          arith,
+          file-long s b labels r,
+          T .long,
+          w .few,
+          W .header .whole,
+          W .header .count-high,
+          P .long,
+          body-vertices s,
+          node-count s (T .long),
+        ) in
         rw (w .begins) (record {
           text = e;
           is-text = w .is-text;
@@ -188,4 +200,5 @@ gives-G out h =
     let (l, r, w) = labelled-iff-witness chartG labelsG G-chart G-bytes .0 (1, G-labelled) in
     let P : DrawnPasses chartG labelsG = record { chart = well-formed chartG G-chart; long = l; reaches = r; witness = w } in
     let t = fitting-iff (drawnOf chartG labelsG) 127 1 0 (star (act 1) (act 2)) .0 G-text .0 in
-    given G-bytes (written {s = nodesG} P t (omega arith) h (subst (IsTable (star (act 1) (act 2))) G-nodes (texts.text-table chartG labelsG (P .chart) (star (act 1) (act 2)) t))) refl
+    let T = texts.text-table chartG labelsG (P .chart) (star (act 1) (act 2)) t in
+    given G-bytes (written {s = nodesG} P t (omega arith) h (subst (IsTable (star (act 1) (act 2))) G-nodes T)) refl

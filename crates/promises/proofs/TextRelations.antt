@@ -89,8 +89,10 @@ module _ (body labels : List ℕ) (W : WellFormed body) where
     matched =
         rw (body-start s, body-transitions s, last)
         (same-relation bits
-        (same-steps (λ u a w. Iff·rfl) (indexed-member body) (suc root) (startOf body) (RemainsAt (drawnOf body labels) (verticesOf body) (node s) (suc root))
-        (table-bisimulation (drawnOf body labels) (verticesOf body) (drawn-formed body labels W) (W .header .start-high) (node s) e root post t)))
+        (same-steps (λ u a w. Iff·rfl) (indexed-member body) (suc root) (startOf body)
+        (RemainsAt (drawnOf body labels) (verticesOf body) (node s) (suc root))
+        (table-bisimulation (drawnOf body labels) (verticesOf body) (drawn-formed body labels W) (W .header .start-high)
+        (node s) e root post t)))
 
     pub some-relation : (r : List ℕ) × Bytes r × (relationOf (bodyOf s) body r ≡ Passed)
     unfolding relation

@@ -21,7 +21,8 @@ use Rattle.theory.proofs.TextTests.{written-sound, written-complete}
 clash : _≡_ {A = ℕ} 0 1 → ⊥
 clash z = omega arith
 
-two : {d e f g : Expr} (k : Expr → Expr → Expr) → Dec (d ≡ f) → Dec (e ≡ g) → (k d e ≡ k f g → d ≡ f) → (k d e ≡ k f g → e ≡ g) → Dec (k d e ≡ k f g)
+two : {d e f g : Expr} (k : Expr → Expr → Expr) → Dec (d ≡ f) → Dec (e ≡ g)
+    → (k d e ≡ k f g → d ≡ f) → (k d e ≡ k f g → e ≡ g) → Dec (k d e ≡ k f g)
 two k (yes p) (yes q) i j = yes (ap₂ k p q)
 two k (yes p) (no h) i j = no (λ q. h (j q))
 two k (no h) d i j = no (λ q. h (i q))
@@ -68,7 +69,8 @@ module _ (c : LabelledChart) (vertices : ℕ) (some-vertex : 0 < vertices) where
   at-end : {v : ℕ} → Remains c vertices [] v → v ≡ 0
   at-end over = refl
 
-  first : {v : ℕ} {e : Expr} {es : List Expr} → Remains c vertices (e ∷ es) v → (v < vertices) × ((back : ℕ) × Text c v back e × Remains c vertices es back)
+  first : {v : ℕ} {e : Expr} {es : List Expr} → Remains c vertices (e ∷ es) v
+      → (v < vertices) × ((back : ℕ) × Text c v back e × Remains c vertices es back)
   first (next {back = back} b t r) = (b, (back, t, r))
 
   pub remains? : (es : List Expr) (v : ℕ) → Dec (Remains c vertices es v)
@@ -80,7 +82,10 @@ module _ (c : LabelledChart) (vertices : ℕ) (some-vertex : 0 < vertices) where
       pair (yes a) (no h) = no (λ p. h (p .1))
       pair (no h) d = no (λ p. h (p .0))
 
-      go : Dec (v < vertices) → ((b : ℕ) × (b < vertices) × (Text c v b e × Remains c vertices es b)) ⊎ ((b : ℕ) → b < vertices → ¬ (Text c v b e × Remains c vertices es b)) → Dec (Remains c vertices (e ∷ es) v)
+      go : Dec (v < vertices)
+          → ((b : ℕ) × (b < vertices) × (Text c v b e × Remains c vertices es b))
+          ⊎ ((b : ℕ) → b < vertices → ¬ (Text c v b e × Remains c vertices es b))
+          → Dec (Remains c vertices (e ∷ es) v)
       go (no h) d = no (λ r. h (first r .0))
       go (yes h) (inl (b, l, p)) = yes (next h (p .0) (p .1))
       go (yes h) (inr n) = no (λ r. let (b, t, s) = first r .1 in n b (remains-low s) (t, s))

@@ -114,7 +114,8 @@ join-forest {nd} {n} {o} {l} {r} xs ys e f =
     lower : (q : Op) (x y : ℕ) → nd n ≡ bin q x y → (x < n) × (y < n)
     lower q x y g =
         let a : l < n = root-below f l (occurs-self l xs (r ∷ ys)) in
-        let b : r < n = root-below f r (rw (occurs-append r xs (l ∷ r ∷ ys), occurs-cons r l (r ∷ ys), occurs-cons r r ys, eq-eqb r r refl) (omega arith)) in
+        let b : r < n = root-below f r
+        (rw (occurs-append r xs (l ∷ r ∷ ys), occurs-cons r l (r ∷ ys), occurs-cons r r ys, eq-eqb r r refl) (omega arith)) in
         let c : x ≡ l = cc in
         let d : y ≡ r = cc in
         (omega arith, omega arith)
@@ -125,7 +126,8 @@ grown-forest (plant p g) = plant-forest p (grown-forest g)
 grown-forest (join xs ys e g) = join-forest xs ys e (grown-forest g)
 
 -- no node uses the last one
-last-unused : {nd : ℕ → Node} (n j : ℕ) → ((k : ℕ) (o : Op) (l r : ℕ) → k < n → nd k ≡ bin o l r → (l < k) × (r < k)) → n ≤ suc j → uses nd n j ≡ 0
+last-unused : {nd : ℕ → Node} (n j : ℕ)
+    → ((k : ℕ) (o : Op) (l r : ℕ) → k < n → nd k ≡ bin o l r → (l < k) × (r < k)) → n ≤ suc j → uses nd n j ≡ 0
 last-unused {nd} zero j low h = uses-zero nd j
 last-unused {nd} (suc n) j low h =
     omega (arith, uses-suc nd n j, last-unused {nd = nd} n j (λ k o l r b. low k o l r (omega arith)) (omega arith), at-node (nd n) refl)

@@ -71,7 +71,8 @@ pub mod Rules
 -- 42 to 45 pass exactly where the relation is a bisimulation: related-iff-bisimulation; one outcome, one-relation-outcome; as a
 -- test that runs, relation-checked
 pub mod Relations
--- equality is a bisimulation, equal-states; so are two, one after the other, composed; with actions replaced one stays one, renamed-bisimulation
+-- equality is a bisimulation, equal-states; so are two, one after the other, composed; with actions replaced one stays one,
+-- renamed-bisimulation
 pub mod Systems
 -- by any rule, over any two systems with a bisimulation between them: they answer alike, followers-agree and fresh-agree; where
 -- the one has answers so has the other, follows-carried and fresh-carried. What a set shows and the answers are determined:

@@ -1,7 +1,8 @@
 -- What remains at a vertex of the drawn chart steps, by the published rules, as the vertex does.
 use mathlib.Core.Path.{_≡_, refl, sym, ap, _∙_, subst}
 use mathlib.Core.Logic.{_≢_, _↔_, ⊎-elim}
-use mathlib.Core.List.{List, [], _∷_, _++_, map, List·Memᴰ, List·Memᴰ·head, List·Memᴰ·not-nil, List·Memᴰ·append-cases, List·Memᴰ·eq-of-singleton, Memᴰ·append-left, Memᴰ·append-right, Memᴰ·map, Memᴰ·of-map}
+use mathlib.Core.List.{List, [], _∷_, _++_, map, List·Memᴰ, List·Memᴰ·head, List·Memᴰ·not-nil, List·Memᴰ·append-cases}
+use mathlib.Core.List.{List·Memᴰ·eq-of-singleton, Memᴰ·append-left, Memᴰ·append-right, Memᴰ·map, Memᴰ·of-map}
 use mathlib.Core.Option.{Option, none, some}
 use Prim.Native.Nat.{ℕ, zero, suc, _≤_, _<_}
 use native.Mathlib.Omega.{arith}
@@ -15,7 +16,8 @@ use Rattle.theory.specs.Systems.{Bisimulation}
 use Rattle.theory.specs.LabelledCharts.{LabelledChart, labelledSteps, Half, entries, branches, InHalf}
 use Rattle.theory.specs.Texts.{plus, total, Text, text, Sum, nothing, other, alone, times}
 use Rattle.theory.specs.Remains.{Remains, over, next, factors, pieces, AtVertex}
-use Rattle.theory.proofs.Contexts.{plug, plugged, plug-not-end, plug-pieces, pieces-plug, moves, moves-sound, moves-complete, moves-plug}
+use Rattle.theory.proofs.Contexts.{plug, plugged, plug-not-end, plug-pieces, pieces-plug}
+use Rattle.theory.proofs.Contexts.{moves, moves-sound, moves-complete, moves-plug}
 
 plus-derivatives : (x : Option Expr) (e : Expr) → derivatives (plus x e) ≡ derivatives (total x) ++ derivatives e
 plus-derivatives none e = refl

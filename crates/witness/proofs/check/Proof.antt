@@ -18,12 +18,14 @@ highest-byte-requires c κs = search needs
 
 check-small-requires : tie.Need-check-small-requires
 check-small-requires c κs =
-    let e = c .before .before .before .before .before .before .before in
+    let n = c .before .before .before in
+    let e = n .before .before .before .before in
     let p = e .pre in
-    let (few, long) = decides-and (decides-leb (c .before .before .before .before .byte .result) 16) (decides-eqb (length (e .args .labels .now)) (c .before .before .before .count .result)) .0 (c .before .before .if1 .taken) in (
-      record { passed = p .0; of-begins = p .1; long = long ∙ c .before .before .before .count .ensures .0 },
+    let small = decides-and (decides-leb (n .before .byte .result) 16) (decides-eqb (length (e .args .labels .now)) (n .count .result)) in
+    let (few, long) = small .0 (c .before .before .if1 .taken) in (
+      record { passed = p .0; of-begins = p .1; long = long ∙ n .count .ensures .0 },
       c .before .highest-byte .ensures .1,
-      omega (arith, c .before .before .before .before .byte .ensures .0, few),
+      omega (arith, n .before .byte .ensures .0, few),
       c .if2 .taken,
     )
 

@@ -16,8 +16,10 @@ highest-byte-requires c κs = search needs
 
 check-large-requires : tie.Need-check-large-requires
 check-large-requires c κs =
-    let p = c .before .before .before .before .before .pre in
-    (record { passed = p .0; of-begins = p .1; long = c .before .if1 .left ∙ c .before .before .count .ensures .0 }, c .highest-byte .ensures .1)
+    let p = c .before .before .before .before .before .pre in (
+      record { passed = p .0; of-begins = p .1; long = c .before .if1 .left ∙ c .before .before .count .ensures .0 },
+      c .highest-byte .ensures .1,
+    )
 
 returns-2 : tie.Need-returns-2
 returns-2 c = search needs

@@ -211,7 +211,7 @@ write-sum-put-node-requires : (t : ℕ)
     → write-sum-lts.Need-put-node-requires (sum-callees t) (write-sum-at t) write-sum.Post write-sum-Inv-loop write-sum-μ-loop
 write-sum-put-node-requires t c κs =
     let I = at-item t (c .before .before .before) in
-    (I .sum .long, omega (arith, I .room, c .before .before .if2 .left, I .sum .low), omega arith, omega arith)
+    (I .sum .long, omega (arith, I .room, c .before .before .if2 .left, I .sum .low), omega arith, omega arith, omega arith)
 
 write-sum-mul-byte : (t : ℕ)
     → write-sum-lts.Need-mul-byte (sum-callees t) (write-sum-at t) write-sum.Post write-sum-Inv-loop write-sum-μ-loop
@@ -372,7 +372,7 @@ write-sum-put-node-requires-2 : (t : ℕ)
     → write-sum-lts.Need-put-node-requires-2 (sum-callees t) (write-sum-at t) write-sum.Post write-sum-Inv-loop write-sum-μ-loop
 write-sum-put-node-requires-2 t c κs =
     let i = c .before .before .before .before .loop .inv .1 in
-    (i .long, omega (arith, c .before .if6 .left, i .low), omega arith, omega arith)
+    (i .long, omega (arith, c .before .if6 .left, i .low), omega arith, omega arith, omega arith)
 
 write-sum-add-result : (t : ℕ)
     → write-sum-lts.Need-add-result (sum-callees t) (write-sum-at t) write-sum.Post write-sum-Inv-loop write-sum-μ-loop
@@ -495,6 +495,7 @@ write-text-put-node-requires t c κs =
     let g = nodes-end (some (R .0)) (R .2) in (
       right .before .write-sum2 .ensures .kept .long ∙ left .before .write-sum .ensures .kept .long ∙ p .2 .long,
       omega (arith, R .3, p .2 .within, k .1),
+      omega arith,
       omega (arith, L .3, p .2 .within),
       omega (arith, R .3, p .2 .within),
     )

@@ -16,7 +16,7 @@ sub-put-node c = search needs
 put-node-requires : tie.Need-put-node-requires
 put-node-requires c κs =
     let p = c .before .before .pre in
-    (p .0, p .3 (omega (arith, p .1, c .before .if1 .left)), omega (arith, p .1, p .2), omega (arith, p .2))
+    (p .0, p .3 (omega (arith, p .1, c .before .if1 .left)), omega arith, omega (arith, p .1, p .2), omega (arith, p .2))
 
 add-result : tie.Need-add-result
 add-result c = search needs
