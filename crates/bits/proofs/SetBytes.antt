@@ -1,14 +1,15 @@
--- Sets of numbers below 128 as sixteen bytes: which bits the bytes of a set have, and that the bits determine the bytes.
+-- Lists of bytes, and sets of numbers below 128 as sixteen of them: which bits the bytes of a set have, and that the bits
+-- determine the bytes.
 use mathlib.Core.Path.{_≡_, refl, sym, ap, _∙_, subst}
 use mathlib.Core.Logic.{_↔_, Iff·symm, Iff·trans, ⊎-elim}
 use mathlib.Core.Bool.{Bool, true, false, cond, true≢false}
-use mathlib.Core.List.{List}
+use mathlib.Core.List.{List, [], _∷_}
 use Prim.Native.Nat.{ℕ, zero, suc, _+_, _-_, _*_, _/_, _%_, _^_, _≤_, _<_}
 use native.Mathlib.Nat.{pow-suc, eq-or-lt-of-le, le-of-suc-le-suc}
 use native.Mathlib.Decide.{decLt}
 use native.Mathlib.Omega.{arith}
 use lib.Dec.{eqb}
-use lib.ListN.{length, getD, List·getD-eq-default}
+use lib.ListN.{length, getD, take, List·getD-eq-default}
 use lib.Seq.{ext-getD}
 use borrow.Author.Tests.{eq-eqb, eqb-true}
 use Rattle.bits.specs.Bits.{Bytes, hasBit, bitsOf, bytesFrom, setBytes}
@@ -17,6 +18,13 @@ use Rattle.bits.proofs.Words.{bit-below}
 use Rattle.bits.proofs.Packed.{stacked-low, stacked-high}
 use Rattle.bits.proofs.Determined.{test-one}
 use Rattle.bits.proofs.Members.{same-word}
+
+-- the first of a list of bytes are bytes
+pub taken-bytes : (n : ℕ) (l : List ℕ) → Bytes l → Bytes (take n l)
+taken-bytes zero l h i = omega arith
+taken-bytes (suc n) [] h i = omega arith
+taken-bytes (suc n) (x ∷ l) h zero = h 0
+taken-bytes (suc n) (x ∷ l) h (suc i) = taken-bytes n l (λ j. h (suc j)) i
 
 -- ONE BYTE
 module _ (p : ℕ → Bool) where

@@ -85,14 +85,23 @@ fn append_either(text: &mut [u8], at: usize, flag: u64, one: &[u8], other: &[u8]
     append(text, at, other)
 }
 
-// In document 01's words.
+// The follower's word, in documents 01's and 02's words.
+fn append_followed(text: &mut [u8], word: u64) -> usize
+    ensures { λ r. ⌜ Counts r (now (text .exit)) ⌝ }
+{
+    if word == 2 {
+        return append(text, 0, b" spoilt");
+    }
+    append_either(text, 0, word, b" taken", b" not possible")
+}
+
 pub(crate) fn write_followed(text: &mut [u8], numbers: Numbers) -> usize
     ensures { λ r. ⌜ Counts r (now (text .exit)) ⌝ }
 {
     if numbers.n > 0 {
         return write_verdict(text, numbers);
     }
-    let at = append_either(text, 0, numbers.p, b" taken", b" not possible");
+    let at = append_followed(text, numbers.p);
     let at = append_either(text, at, numbers.q, b" yes", b" no");
     append_value(text, at, numbers.r)
 }

@@ -140,23 +140,34 @@ fn action(line: &[u8]) -> u8 {
 }
 
 // A state that is handed over, and lent on to the functions that update it where it stands.
-fn moved_by_value(chart: &[u8], set: [u8; 16], line: &[u8]) -> Moved {
+fn moved_by_value(chart: &[u8], state: Follower, line: &[u8]) -> Moved {
     if word_of(line) == RESTART {
         let fresh = follower::restart(chart);
-        let state = fresh.follower;
-        return follower::restart_through(state, chart);
+        let handed_back = fresh.follower;
+        return follower::restart_through(handed_back, chart);
     }
-    follower::event_through(Follower { set }, chart, action(line))
+    follower::event_through(state, chart, action(line))
 }
 
-// The set is that of the lent state, which becomes what is handed back.
-fn followed_by_value(chart: &[u8], state: &mut [u8], line: &[u8]) -> Numbers {
+// The state that bytes hold, with zeros for those that are not there.
+fn state_in(bytes: &[u8]) -> Follower {
+    let mut held = [0u8; 17];
+    append(&mut held, 0, bytes);
     let mut set = [0u8; 16];
-    append(&mut set, 0, state);
-    let moved = moved_by_value(chart, set, line);
+    append(&mut set, 0, &held);
+    Follower {
+        set,
+        mark: held[16],
+    }
+}
+
+// The state is the lent one, which becomes what is handed back.
+fn followed_by_value(chart: &[u8], state: &mut [u8], line: &[u8]) -> Numbers {
+    let moved = moved_by_value(chart, state_in(state), line);
     let follower = moved.follower;
-    let handed_back = follower.set;
-    append(state, 0, &handed_back);
+    let set = follower.set;
+    let at = append(state, 0, &set);
+    append(state, at, &[follower.mark]);
     let answer = moved.answer;
     report::followed_numbers(answer)
 }

@@ -1,29 +1,32 @@
--- One call: what the definitions answer and leave is what document 01 says, both ways.
+-- One call: what the definitions answer and leave is what the documents say, both ways.
 use Prim.Native.Nat.{ℕ, _<_, _≤_}
-use mathlib.Core.Path.{_≡_, refl, sym, ap, ap₂, _∙_}
-use mathlib.Core.Logic.{_≢_, _↔_, Iff·rfl, Iff·symm, Iff·trans, by-cases}
-use mathlib.Core.Bool.{Bool, true, false, cond}
-use mathlib.Core.List.{List, [], _∷_, List·Memᴰ, List·Memᴰ·head, List·Memᴰ·eq-of-singleton}
+use mathlib.Core.Path.{_≡_, refl, sym, ap, ap₂, _∙_, subst}
+use mathlib.Core.Logic.{_≢_, _⊎_, inl, inr, ⊎-elim, _↔_, Iff·rfl, Iff·symm, Iff·trans, by-cases}
+use mathlib.Core.Bool.{Bool, true, false, cond, true≢false}
+use mathlib.Core.List.{List, [], _∷_, _++_, List·Memᴰ, List·Memᴰ·head, List·Memᴰ·eq-of-singleton}
 use native.Mathlib.Decide.{ℕ-discrete}
 use native.Mathlib.Omega.{arith}
 use lib.Dec.{eqb}
-use lib.ListN.{length}
-use borrow.Author.Tests.{eq-eqb, ne-eqb}
+use lib.ListN.{length, getD, take, length-append, List·getD-append}
+use lib.Seq.{length-take-le, getD-take, getD-at, take-at, ext-getD}
+use borrow.Author.Tests.{eq-eqb, ne-eqb, eqb-true}
 use Rattle.theory.specs.Tests.{Decides, someIn}
 use Rattle.theory.specs.Followers.{StateSet, SameMembers, Offered, Closed, View, Shows, Effect, keep, fresh, empty, go, Becomes, Response, Responds}
-use Rattle.theory.specs.Events.{Call, restart, event, Answer, taken, not-possible, told, reply, eventRule}
+use Rattle.theory.specs.Events.{Call, restart, event, Answer, taken, not-possible, told, reply, stepReply, eventRule}
 use Rattle.theory.specs.Runs.{viewOf, leftBy, callOn}
-use Rattle.theory.proofs.Tests.{decided, is-false, decides-same, decides-and, decides-not, decides-leb, decides-in, decides-listed, not-so}
+use Rattle.theory.proofs.Tests.{decided, is-false, decides-same, decides-and, decides-not, decides-eqb, decides-leb, decides-in, decides-listed, not-so}
 use Rattle.theory.proofs.Systems.{identity, lift-equal, equal-lift}
 use Rattle.theory.proofs.Followers.{shows-carried, responds-agree, responds-carried, responds-same, responds-within, responds-some, chart-closed}
-use Rattle.theory.proofs.Events.{restart-taken, event-taken, event-not-possible, event-never-empties}
+use Rattle.theory.proofs.Events.{restart-taken, event-taken, event-not-possible, event-spoilt, event-never-empties}
 use Rattle.theory.proofs.Runs.{view-shows, call-responds, chart-machine}
 use Rattle.report.specs.declared.Followed.{Followed}
-use Rattle.report.specs.declared.Followed.the-variants.{Taken, NotPossible, Refused}
+use Rattle.report.specs.declared.Followed.the-variants.{Taken, NotPossible, Spoilt, Refused}
 use Rattle.report.specs.declared.Place.{Place}
 use Rattle.report.specs.declared.Place.the-variants as place
 use Rattle.report.specs.declared.Stage.{Stage}
 use Rattle.report.specs.declared.Stage.the-variants as stage
+use Rattle.report.specs.Numbers.{flag}
+use Rattle.report.proofs.NumberLaws.{flag-back}
 use Rattle.bits.specs.Bits.{Bytes, hasBit}
 use Rattle.bits.proofs.Determined.{test-one}
 use Rattle.chart.specs.Bodies.{verticesOf, startOf, WellFormed}
@@ -34,55 +37,96 @@ use Rattle.chart.proofs.Refusals.{chart-refused}
 use Rattle.chart.proofs.Relations.{acts-member}
 use Rattle.follower.specs.declared.Follower.{Follower}
 use Rattle.follower.specs.declared.Moved.{Moved}
-use Rattle.follower.specs.States.{stateSize, bytesIn, stateIn, Formed, InState, membersOf, setOf, keptIn, stateWith}
-use Rattle.follower.specs.Calls.{setTest, stateStage, readyOf, followedAs, answerOf, setBy, stateAfter, moved, ruledOf, calledOn, inBytes, otherLength, lentOn}
-use Rattle.follower.specs.FollowerAnswers.{FreshStart, SetPasses, Possible, Shown, CallAnswer, no-set, restarts, goes, stays, LentAnswer, other-length, holds-state}
+use Rattle.follower.specs.States.{stateSize, bytesIn, stateIn, Formed, InState, membersOf, setOf, Unspoilt, IsSpoilt, Marked, keptIn, stateWith, spoiltState}
+use Rattle.follower.specs.Calls.{stateTest, stateStage, readyOf, followedAs, answerOf, setBy, stateAfter, moved, ruledOf, calledOn, inBytes, otherLength, lentOn}
+use Rattle.follower.specs.FollowerAnswers.{FreshStart, StateFits, Possible, Shown, CallAnswer, unfit, restarts, goes, spoils, stays, LentAnswer, other-length, holds-state}
 use Rattle.follower.specs.FollowerAnswers as answers
 use Rattle.follower.specs.Lists.{RuleResponds}
-use Rattle.bits.proofs.SetBytes.{set-length, set-bytes, same-bytes}
+use Rattle.bits.proofs.SetBytes.{taken-bytes, set-length, set-bytes, same-bytes}
 use Rattle.follower.proofs.Bytes.{members-are, set-has}
 
--- STATES with the same vertices are the same
-pub same-state : {f g : Follower} → Formed f → Formed g → ((v : ℕ) → InState f v ↔ InState g v) → f ≡ g
-same-state {f} {g} F G e =
-    ap (λ (s : List ℕ). stateWith s tt) (same-bytes (f .set) (g .set) (F .sixteen) (G .sixteen) (F .bytes) (G .bytes)
-    (λ v h. test-one (hasBit (f .set) v) (hasBit (g .set) v) (λ i. e v .0 (h, i) .1, λ i. e v .1 (h, i) .1) Iff·rfl))
+-- STATES with the same vertices and the same mark are the same
+pub same-state : {f g : Follower} → Formed f → Formed g → ((v : ℕ) → InState f v ↔ InState g v) → f .mark ≡ g .mark → f ≡ g
+same-state {f} {g} F G e m =
+    let s = same-bytes (f .set) (g .set) (F .sixteen) (G .sixteen) (F .bytes) (G .bytes)
+    (λ v h. test-one (hasBit (f .set) v) (hasBit (g .set) v) (λ i. e v .0 (h, i) .1, λ i. e v .1 (h, i) .1) Iff·rfl) in
+    λ i. record { set = s i; mark = m i }
 
-formed-of : (xs : List ℕ) → Formed (stateWith (setOf xs) tt)
-formed-of xs = record { sixteen = set-length _; bytes = set-bytes _ }
+formed-of : (xs : List ℕ) (spoilt : Bool) → Formed (stateWith (setOf xs) spoilt)
+formed-of xs spoilt = record { sixteen = set-length _; bytes = set-bytes _ }
 
 -- as many bytes as a state has hold one, and are its bytes
-pub formed-in : {s : List ℕ} → Bytes s → length s ≡ stateSize → Formed (stateIn s)
-formed-in B l = record { sixteen = l; bytes = B }
+pub formed-in : (s : List ℕ) → Bytes s → length s ≡ stateSize → Formed (stateIn s)
+formed-in s B l = record { sixteen = length-take-le 16 s (omega (arith, l)); bytes = taken-bytes 16 s B }
 
-pub bytes-back : {s : List ℕ} → length s ≡ stateSize → bytesIn (stateIn s) ≡ s
-bytes-back l = refl
+pub bytes-back : (s : List ℕ) → length s ≡ stateSize → bytesIn (stateIn s) ≡ s
+bytes-back s l =
+    let t : length (take 16 s) ≡ 16 = length-take-le 16 s (omega (arith, l)) in
+    ext-getD 0 (take 16 s ++ (getD s 16 0 ∷ [])) s (length-append (take 16 s) (getD s 16 0 ∷ []) ∙ rw (t, l) refl)
+    (λ k h. by-cases (ℕ-discrete k 16)
+    (λ e. rw e (getD-at (take 16 s) (getD s 16 0) [] 0 16 t))
+    (λ n. let g : k < 16 = omega (arith, h, length-append (take 16 s) (getD s 16 0 ∷ []), t, n) in
+    List·getD-append (take 16 s) (getD s 16 0 ∷ []) 0 k (omega (arith, g, t)) ∙ getD-take 16 s k 0 g))
+
+pub bytes-long : (f : Follower) → length (f .set) ≡ 16 → length (bytesIn f) ≡ stateSize
+bytes-long f l = length-append (f .set) (f .mark ∷ []) ∙ rw l refl
+
+-- and the bytes of a state hold it
+pub state-back : (f : Follower) → length (f .set) ≡ 16 → stateIn (bytesIn f) ≡ f
+state-back f l =
+    let s = take-at (f .set) (f .mark ∷ []) 16 l in
+    let m = getD-at (f .set) (f .mark) [] 0 16 l in
+    λ i. record { set = s i; mark = m i }
+
+-- THE MARK, and what the rule keeps
+pub unspoilt-kept : {m : ℕ} → m ≡ 0 → eqb m 1 ≡ false
+unspoilt-kept e = rw e refl
+
+pub kept-unspoilt : {m : ℕ} → (m ≡ 0) ⊎ (m ≡ 1) → eqb m 1 ≡ false → m ≡ 0
+kept-unspoilt (inl e) k = e
+kept-unspoilt {m} (inr e) k = absurd (true≢false (sym (eq-eqb m 1 e) ∙ k))
+
+same-mark : {m n : ℕ} → (m ≡ 0) ⊎ (m ≡ 1) → (n ≡ 0) ⊎ (n ≡ 1) → eqb m 1 ≡ eqb n 1 → m ≡ n
+same-mark (inl e) g k = e ∙ sym (kept-unspoilt g (sym k ∙ unspoilt-kept e))
+same-mark {m} {n} (inr e) g k = e ∙ sym (eqb-true n 1 (sym k ∙ eq-eqb m 1 e))
+
+flag-marked : (spoilt : Bool) → (flag spoilt ≡ 0) ⊎ (flag spoilt ≡ 1)
+flag-marked true = inr refl
+flag-marked false = inl refl
+
+pub mark-flag : {m : ℕ} → (m ≡ 0) ⊎ (m ≡ 1) → m ≡ flag (eqb m 1)
+mark-flag (inl e) = rw e refl
+mark-flag (inr e) = rw e refl
 
 -- THE TEST of 53 decides what 53 asks
-pub tests-set : (b : List ℕ) (f : Follower) → Decides (setTest b f) (SetPasses b f)
-unfolding setTest
-tests-set b f =
+pub tests-state : (b : List ℕ) (f : Follower) → Decides (stateTest b f) (StateFits b f)
+unfolding stateTest
+tests-state b f =
     decides-same (
-      (λ ((v, m), none). record {
+      (λ (((v, m), none), l). record {
         some = (v, members-are f v .0 m);
         below = λ w i. below w (λ l. none (w, members-are f w .1 i, l));
+        marked = marked (f .mark) l;
       }),
       (λ p. (
-        (p .some .0, members-are f _ .1 (p .some .1)),
-        λ (v, m, l). omega (arith, p .below v (members-are f v .0 m)),
+        ((p .some .0, members-are f _ .1 (p .some .1)), λ (v, m, l). omega (arith, p .below v (members-are f v .0 m))),
+        ⊎-elim (λ e. omega (arith, e)) (λ e. omega (arith, e)) (p .marked),
       )),
     )
-    (decides-and (view-shows (machineOf b) (membersOf f) .some)
-    (decides-not (decides-in (λ v. decides-leb (verticesOf b) v) (membersOf f))))
+    (decides-and (decides-and (view-shows (machineOf b) (membersOf f) .some)
+    (decides-not (decides-in (λ v. decides-leb (verticesOf b) v) (membersOf f)))) (decides-leb (f .mark) 1))
   where
     below : (w : ℕ) → ¬ (verticesOf b ≤ w) → w < verticesOf b
     below w n = omega arith
 
-pub state-ready : {b : List ℕ} {f : Follower} → SetPasses b f → stateStage b f ≡ stage.Passed
-state-ready {b} {f} p = rw (tests-set b f .1 p) refl
+    marked : (m : ℕ) → m ≤ 1 → (m ≡ 0) ⊎ (m ≡ 1)
+    marked m l = by-cases (ℕ-discrete m 0) (λ e. inl e) (λ n. inr (omega arith))
 
-pub state-unready : {b : List ℕ} {f : Follower} → ¬ SetPasses b f → stateStage b f ≡ stage.Refused place.FollowerSet
-state-unready {b} {f} n = rw (is-false (tests-set b f) n) refl
+pub state-ready : {b : List ℕ} {f : Follower} → StateFits b f → stateStage b f ≡ stage.Passed
+state-ready {b} {f} p = rw (tests-state b f .1 p) refl
+
+pub state-unready : {b : List ℕ} {f : Follower} → ¬ StateFits b f → stateStage b f ≡ stage.Refused place.FollowerSet
+state-unready {b} {f} n = rw (is-false (tests-state b f) n) refl
 
 -- THE STAGES of a call: 20 and 21; 53; then the rule
 module _ (b : List ℕ) (f : Follower) (c : Call) where
@@ -106,14 +150,20 @@ restart-alike b f g = refl
 -- 53 is asked of an event only
 abbrev pub Ready : List ℕ → Follower → Call → Type 0
 Ready b f restart = Unit {0}
-Ready b f (event a) = SetPasses b f
+Ready b f (event a) = StateFits b f
 
 -- what is handed back or left is the rule's, over the chart of the body
 pub record Ruled (b : List ℕ) (f : Follower) (c : Call) (m : Moved) : Type 0 where
   pub answer : Answer
   pub answered : m .answer ≡ followedAs answer
   pub formed : Formed (m .follower)
+  pub marked : Marked (m .follower)
   pub responds : RuleResponds b f c answer (m .follower)
+
+-- a call that the rule answers where so much is kept
+as-kept : (b : List ℕ) (f g : Follower) {c : Call} {x : Answer} {k l : Bool} → keptIn f ≡ k → keptIn g ≡ l
+    → Responds eventRule (systemOf b) (InState f) k c x (InState g) l → RuleResponds b f c x g
+as-kept b f g p q r = rw (p, q) r
 
 -- OVER A BODY THAT PASSES
 module _ {b : List ℕ} (W : WellFormed b) where
@@ -150,27 +200,29 @@ module _ {b : List ℕ} (W : WellFormed b) where
   set-left f empty h = set-of _ h
   set-left f (go a) h = set-of _ h
 
-  formed-left : {f : Follower} (e : Effect) → Formed f → Formed (stateWith (setBy b f e) tt)
-  formed-left keep F = F
-  formed-left fresh F = formed-of _
-  formed-left empty F = formed-of _
-  formed-left (go a) F = formed-of _
+  formed-left : {f : Follower} (e : Effect) (spoilt : Bool) → Formed f → Formed (stateWith (setBy b f e) spoilt)
+  formed-left keep k F = record { sixteen = F .sixteen; bytes = F .bytes }
+  formed-left fresh k F = formed-of _ k
+  formed-left empty k F = formed-of _ k
+  formed-left (go a) k F = formed-of _ k
 
   -- A FRESH START is what a restart leaves: the start's bit alone
   abbrev freshState : Follower
-  freshState = stateWith (setOf (startOf b ∷ [])) tt
+  freshState = stateWith (setOf (startOf b ∷ [])) false
 
   starts : (v : ℕ) → List·Memᴰ v (startOf b ∷ []) ↔ InState freshState v
   starts = set-of (startOf b ∷ []) (λ v m. let e : v ≡ startOf b = List·Memᴰ·eq-of-singleton m in omega (arith, e, W .header .start-high))
 
   pub fresh-start : FreshStart b freshState
   fresh-start = record {
-    formed = formed-of _;
+    formed = formed-of _ false;
+    unspoilt = refl;
     alone = λ v. Iff·trans (Iff·symm (starts v)) (List·Memᴰ·eq-of-singleton, λ e. List·Memᴰ·head e);
   }
 
-  pub fresh-passes : {f : Follower} → FreshStart b f → SetPasses b f
-  fresh-passes F = record {
+  pub fresh-fits : {f : Follower} → FreshStart b f → StateFits b f
+  fresh-fits F = record {
+    marked = inl (F .unspoilt);
     some = (startOf b, F .alone (startOf b) .1 refl);
     below = λ v i. let e = F .alone v .0 i in omega (arith, e, W .header .start-high);
   }
@@ -181,24 +233,28 @@ module _ {b : List ℕ} (W : WellFormed b) where
   restart-ruled f = record {
     answer = told taken (viewOf (machineOf b) (startOf b ∷ []));
     answered = refl;
-    formed = formed-of _;
+    formed = formed-of _ false;
+    marked = inl refl;
     responds = restart-taken (shown f)
         (shows-carried (chart-machine _ _) (lift-equal starts) (view-shows (machineOf b) (startOf b ∷ [])))
         (fresh-start .alone);
   }
 
-  event-ruled : (f : Follower) (a : ℕ) → Formed f → SetPasses b f → Ruled b f (event a) (ruledOf b f (event a))
+  event-ruled : (f : Follower) (a : ℕ) → Formed f → StateFits b f → Ruled b f (event a) (ruledOf b f (event a))
   unfolding answerOf stateAfter
   event-ruled f a F p =
       let e = eventRule .response (keptIn f) (event a) (viewOf (machineOf b) (membersOf f)) .effect in
+      let k = callOn eventRule (machineOf b) (keptIn f, membersOf f) (event a) .1 .0 in
       let r = listed f (event a) in
       record {
         answer = callOn eventRule (machineOf b) (keptIn f, membersOf f) (event a) .0;
         answered = refl;
-        formed = formed-left e F;
+        formed = formed-left e k F;
+        marked = flag-marked k;
         responds =
-            responds-same eventRule (systemOf b)
-            (set-left f e (responds-within eventRule (systemOf b) closed (p .below) r)) r;
+            as-kept b f (stateWith (setBy b f e) k) refl (flag-back k)
+            (responds-same eventRule (systemOf b)
+            (set-left f e (responds-within eventRule (systemOf b) closed (p .below) r)) r);
       }
 
   pub call-ruled : (f : Follower) (c : Call) → Formed f → Ready b f c → Ruled b f c (calledOn b f c)
@@ -211,8 +267,9 @@ module _ {b : List ℕ} (W : WellFormed b) where
   fresh-called f = rw (called-ruled b f restart (passes b W) refl) fresh-start
 
   -- and 53 passes again
-  pub still-passes : {f g : Follower} {c : Call} {x : Answer} → SetPasses b f → RuleResponds b f c x g → SetPasses b g
-  still-passes p r = record {
+  pub still-fits : {f g : Follower} {c : Call} {x : Answer} → StateFits b f → Marked g → RuleResponds b f c x g → StateFits b g
+  still-fits p m r = record {
+    marked = m;
     some = responds-some eventRule (systemOf b) event-never-empties (p .some) r;
     below = responds-within eventRule (systemOf b) closed (p .below) r;
   }
@@ -238,38 +295,53 @@ module _ {b : List ℕ} (W : WellFormed b) where
     offered = h .offered;
   }
 
-  -- FROM THE RULE to what document 01 says: an event that passes, by whether it is offered
-  abbrev byOffer : ℕ → Bool → Response Answer (Unit {0})
-  byOffer a d = cond d (reply (go a) (told taken)) (reply keep (told not-possible))
+  -- FROM THE RULE to what the documents say: an event on a state that is not spoilt, by whether it is offered
+  abbrev byOffer : ℕ → Bool → Response Answer Bool
+  byOffer a d = cond d (reply (go a) (told taken) false) (reply keep (told not-possible) true)
 
-  event-says : {a : ℕ} {f g : Follower} {x : Answer} {v w : View} → Formed f → SetPasses b f → Formed g
+  unspoilt-says : {a : ℕ} {f g : Follower} {x : Answer} {v w : View} → Formed f → StateFits b f → Unspoilt f → Formed g → Marked g
       → Shows (systemOf b) (InState f) v → Shows (systemOf b) (InState g) w
       → (d : Bool) → someIn (eqb a) (v .offered) ≡ d
       → SameMembers (systemOf b) (InState g) (Becomes (systemOf b) (InState f) (byOffer a d .effect))
-      → x ≡ byOffer a d .answer w
+      → x ≡ byOffer a d .answer w → keptIn g ≡ byOffer a d .kept w
       → CallAnswer b f (event a) (followedAs x) g
-  event-says {a} {v = v} F p G h k true e m q =
-      rw q (goes W p (h .offered a .0 (decides-listed a (v .offered) .0 e)) G m (view-shown k))
-  event-says {a} {f} {g} {v = v} {w = w} F p G h k false e m q =
-      let n : ¬ Possible b f a = λ o. not-so (decides-listed a (v .offered)) e (h .offered a .1 o) in
-      let z : f ≡ g = sym (same-state G F m) in
-      rw (q, ← z) (stays W p n (view-shown (rw (← z) at k)))
+  unspoilt-says {a} {v = v} F p u G n h k true e m q l =
+      rw q (goes W p u (h .offered a .0 (decides-listed a (v .offered) .0 e)) G m (kept-unspoilt n l) (view-shown k))
+  unspoilt-says {a} {f} {g} {v = v} {w = w} F p u G n h k false e m q l =
+      let o : ¬ Possible b f a = λ o. not-so (decides-listed a (v .offered)) e (h .offered a .1 o) in
+      let z : spoiltState f ≡ g = sym (same-state G (formed-left keep true F) m (eqb-true (g .mark) 1 l)) in
+      rw (q, ← z) (spoils W p u o (view-shown (shows-carried (identity (systemOf b)) (lift-equal m) k)))
 
-  rule-says : (c : Call) {f g : Follower} {x : Answer} → Formed f → Ready b f c → Formed g → RuleResponds b f c x g
-      → CallAnswer b f c (followedAs x) g
-  rule-says restart F p G r = rw (r .answer) (restarts W (record { formed = G; alone = r .members }) (view-shown (r .shown-after)))
-  rule-says (event a) F p G r =
+  -- and on a spoilt one
+  spoilt-says : {a : ℕ} {f g : Follower} {x : Answer} → Formed f → StateFits b f → IsSpoilt f → Formed g → RuleResponds b f (event a) x g
+      → CallAnswer b f (event a) (followedAs x) g
+  spoilt-says {f = f} {g} F p u G r =
       let some : r .before .some ≡ true = r .shown-before .some .1 (p .some) in
-      event-says F p G (r .shown-before) (r .shown-after) (someIn (eqb a) (r .before .offered)) refl
-      (rw some at (r .members)) (rw some at (r .answer))
+      let k = eq-eqb (f .mark) 1 u in
+      let z : f ≡ g = sym (same-state G F (rw (k, some) at (r .members)) (eqb-true (g .mark) 1 (rw (k, some) at (r .kept)) ∙ sym u)) in
+      rw (rw (k, some) at (r .answer), ← z) (stays W p u)
+
+  rule-says : (c : Call) {f g : Follower} {x : Answer} → Formed f → Ready b f c → Formed g → Marked g → RuleResponds b f c x g
+      → CallAnswer b f c (followedAs x) g
+  rule-says restart F p G n r =
+      rw (r .answer)
+      (restarts W (record { formed = G; alone = r .members; unspoilt = kept-unspoilt n (r .kept) }) (view-shown (r .shown-after)))
+  rule-says (event a) {f} F p G n r = ⊎-elim
+      (λ (u : Unspoilt f).
+      let some : r .before .some ≡ true = r .shown-before .some .1 (p .some) in
+      let k = unspoilt-kept u in
+      unspoilt-says F p u G n (r .shown-before) (r .shown-after) (someIn (eqb a) (r .before .offered)) refl
+      (rw (k, some) at (r .members)) (rw (k, some) at (r .answer)) (rw (k, some) at (r .kept)))
+      (λ (u : IsSpoilt f). spoilt-says F p u G r)
+      (p .marked)
 
   -- AND BACK: the rule has one answer, and one state after it
-  agrees : {f g : Follower} {c : Call} {x : Answer} → Formed f → Ready b f c → Formed g → RuleResponds b f c x g
+  agrees : {f g : Follower} {c : Call} {x : Answer} → Formed f → Ready b f c → Formed g → Marked g → RuleResponds b f c x g
       → calledOn b f c ≡ moved (followedAs x) g
-  agrees {f} {g} {c} F p G r =
+  agrees {f} {g} {c} F p G n r =
       let R = call-ruled f c F p in
       let (e, k, m) = responds-agree (identity (systemOf b)) eventRule (lift-equal (λ v. Iff·rfl)) (R .responds) r in
-      ap₂ moved (R .answered ∙ ap followedAs e) (same-state (R .formed) G (equal-lift m))
+      ap₂ moved (R .answered ∙ ap followedAs e) (same-state (R .formed) G (equal-lift m) (same-mark (R .marked) n k))
 
   -- the event 0 is never possible: no transition has it
   pub zero-not-offered : (P : StateSet (systemOf b)) → ¬ Offered (systemOf b) P 0
@@ -297,34 +369,41 @@ module _ (b : List ℕ) where
       where
         ready? : (c : Call) → Dec (Ready b f c)
         ready? restart = yes tt
-        ready? (event a) = decided (tests-set b f)
+        ready? (event a) = decided (tests-state b f)
 
         unready : (c : Call) → WellFormed b → ¬ Ready b f c → Answered c (calledOn b f c)
         unready restart W n = absurd (n tt)
-        unready (event a) W n = rw (called-unready b f (event a) (passes b W) (state-unready n)) (no-set W n)
+        unready (event a) W n = rw (called-unready b f (event a) (passes b W) (state-unready n)) (unfit W n)
 
         at-check : (x : Stage) → checkOf b ≡ x → Answered c (calledOn b f c)
         at-check (stage.Refused p) e = rw (called-refused b f c e) (answers.CallAnswer.other-chart (chart-refused b p .0 e))
         at-check stage.Passed e =
             let W = well-formed b e in
             by-cases (ready? c)
-            (λ p. let R = call-ruled W f c F p in rw (R .answered) (rule-says W c F p (R .formed) (R .responds)))
+            (λ p. let R = call-ruled W f c F p in rw (R .answered) (rule-says W c F p (R .formed) (R .marked) (R .responds)))
             (unready c W)
 
     answer-call : {c : Call} {x : Followed} {g : Follower} → CallAnswer b f c x g → calledOn b f c ≡ moved x g
     answer-call {c} (answers.CallAnswer.other-chart r) = called-refused b f c (chart-refused b _ .1 r)
-    answer-call {c} (no-set W n) = called-unready b f c (passes b W) (state-unready n)
+    answer-call {c} (unfit W n) = called-unready b f c (passes b W) (state-unready n)
     answer-call (restarts {g} {end} W S h) =
-        agrees W F tt (S .formed) (restart-taken (shown W f) (shown-view W h) (S .alone))
+        agrees W F tt (S .formed) (inl (S .unspoilt))
+        (as-kept b f g refl (unspoilt-kept (S .unspoilt)) (restart-taken (shown W f) (shown-view W h) (S .alone)))
         ∙ ap (λ (n : ℕ). moved (Taken end n) g) (h .number)
-    answer-call (goes {a} {g} {end} W p o G m h) =
-        agrees W F p G (event-taken (shown W f) (shown-view W h) a o m)
+    answer-call (goes {a} {g} {end} W p u o G m k h) =
+        agrees W F p G (inl k)
+        (as-kept b f g (unspoilt-kept u) (unspoilt-kept k) (event-taken (shown W f) (shown-view W h) a o m))
         ∙ ap (λ (n : ℕ). moved (Taken end n) g) (h .number)
-    answer-call (stays {a} {end} W p n h) =
-        agrees W F p F (event-not-possible (shown W f) (shown-view W h) a (p .some) n (λ v. Iff·rfl))
-        ∙ ap (λ (n : ℕ). moved (NotPossible end n) f) (h .number)
+    answer-call (spoils {a} {end} W p u n h) =
+        agrees W F p (formed-left W keep true F) (inr refl)
+        (as-kept b f (spoiltState f) (unspoilt-kept u) refl
+        (event-not-possible (shown W f) (shown-view W h) a (p .some) n (λ v. Iff·rfl)))
+        ∙ ap (λ (n : ℕ). moved (NotPossible end n) (spoiltState f)) (h .number)
+    answer-call (stays {a} W p u) =
+        agrees W F p F (inr u)
+        (as-kept b f f (eq-eqb (f .mark) 1 u) (eq-eqb (f .mark) 1 u) (event-spoilt (shown W f) (shown W f) a (p .some) (λ v. Iff·rfl)))
 
-    -- it answers x and leaves g exactly where document 01 says so
+    -- it answers x and leaves g exactly where the documents say so
     pub call-says : (c : Call) (x : Followed) (g : Follower) → Gives (calledOn b f c) x g ↔ CallAnswer b f c x g
     call-says c x g = ((λ (p, q). rw (p, q) at (call-answer c)), λ a. gives (answer-call a))
 
@@ -333,9 +412,9 @@ module _ (b : List ℕ) where
   unfolding lentOn
   lent-held s c l = rw (eq-eqb (length s) stateSize l) refl
 
-  pub lent-called : {s : List ℕ} (c : Call) {f : Follower} {m : Moved} → length s ≡ stateSize → f ≡ stateIn s → m ≡ calledOn b f c
+  pub lent-called : (s : List ℕ) (c : Call) {f : Follower} {m : Moved} → length s ≡ stateSize → f ≡ stateIn s → m ≡ calledOn b f c
       → (m .answer ≡ lentOn b s c .0) × (bytesIn (m .follower) ≡ lentOn b s c .1)
-  lent-called {s} c l e q = rw (lent-held s c l, q, e) (refl, refl)
+  lent-called s c l e q = rw (lent-held s c l, q, e) (refl, refl)
 
   pub lent-other : (s : List ℕ) (c : Call) → length s ≢ stateSize → lentOn b s c ≡ (otherLength (checkOf b), s)
   unfolding lentOn
@@ -345,7 +424,7 @@ module _ (b : List ℕ) where
     lent-answer : LentAnswer b s c (lentOn b s c .0) (lentOn b s c .1)
     lent-answer =
         by-cases (ℕ-discrete (length s) stateSize)
-        (λ l. rw (lent-held s c l) (holds-state l (call-answer (stateIn s) (formed-in B l) c)))
+        (λ l. rw (lent-held s c l) (holds-state l (call-answer (stateIn s) (formed-in s B l) c)))
         (λ n. rw (lent-other s c n) (at-check n (checkOf b) refl))
       where
         at-check : length s ≢ stateSize → (x : Stage) → checkOf b ≡ x → LentAnswer b s c (otherLength (checkOf b)) s
@@ -356,12 +435,12 @@ module _ (b : List ℕ) where
     answer-lent (answers.LentAnswer.other-chart {p} r) =
         let e = chart-refused b p .1 r in
         by-cases (ℕ-discrete (length s) stateSize)
-        (λ l. lent-held s c l ∙ ap inBytes (called-refused b (stateIn s) c e) ∙ ap (λ (t : List ℕ). (Refused p, t)) (bytes-back l))
+        (λ l. lent-held s c l ∙ ap inBytes (called-refused b (stateIn s) c e) ∙ ap (λ (t : List ℕ). (Refused p, t)) (bytes-back s l))
         (λ n. lent-other s c n ∙ rw e refl)
     answer-lent (other-length W n) = lent-other s c n ∙ rw (passes b W) refl
-    answer-lent (holds-state l a) = lent-held s c l ∙ ap inBytes (answer-call (stateIn s) (formed-in B l) a)
+    answer-lent (holds-state l a) = lent-held s c l ∙ ap inBytes (answer-call (stateIn s) (formed-in s B l) a)
 
-    -- it answers x and leaves t exactly where document 01 says so
+    -- it answers x and leaves t exactly where the documents say so
     pub lent-says : (x : Followed) (t : List ℕ) → ((lentOn b s c .0 ≡ x) × (lentOn b s c .1 ≡ t)) ↔ LentAnswer b s c x t
     lent-says x t = (
       (λ (p, q). rw (p, q) at lent-answer),

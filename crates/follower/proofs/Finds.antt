@@ -1,13 +1,15 @@
 -- What the code of a call finds, by sets and marks, is what the definitions say of the state.
-use Prim.Native.Nat.{ℕ, _+_, _*_, _/_, _%_, _<_}
+use Prim.Native.Nat.{ℕ, _+_, _*_, _/_, _%_, _≤_, _<_}
 use mathlib.Core.Path.{_≡_, refl, sym, _∙_, ap, ap₂, subst}
-use mathlib.Core.Logic.{_⊎_, inr, ⊎-elim, _↔_, Iff·symm, Iff·trans, by-cases}
+use mathlib.Core.Logic.{_⊎_, inl, inr, ⊎-elim, _↔_, Iff·symm, Iff·trans, by-cases}
 use mathlib.Core.Bool.{Bool, true, false, true≢false}
 use mathlib.Core.List.{List, [], _∷_, List·Memᴰ, List·Memᴰ·head, List·Memᴰ·not-nil, List·Memᴰ·eq-of-singleton}
-use native.Mathlib.Decide.{decLt}
+use native.Mathlib.Decide.{ℕ-discrete, decLt}
 use native.Mathlib.Omega.{arith}
 use lib.Dec.{eqb, ltb}
-use lib.ListN.{length, getD}
+use borrow.Author.Tests.{eq-eqb}
+use lib.ListN.{length, getD, take}
+use lib.Seq.{getD-take}
 use Rattle.theory.specs.Tests.{Decides, someIn}
 use Rattle.theory.specs.Followers.{Shows, go, Offered}
 use Rattle.theory.specs.Events.{restart, event, taken, not-possible, Word, answer, told}
@@ -17,7 +19,7 @@ use Rattle.theory.proofs.Search.{look-below}
 use Rattle.theory.proofs.Followers.{one-view}
 use Rattle.theory.proofs.Runs.{view-shows, effect-members, chart-machine}
 use Rattle.report.specs.declared.Followed.{Followed}
-use Rattle.report.specs.declared.Followed.the-variants.{Taken, NotPossible}
+use Rattle.report.specs.declared.Followed.the-variants.{Taken, NotPossible, Spoilt}
 use Rattle.report.specs.declared.Place.the-variants as place
 use Rattle.report.specs.declared.Stage.{Stage}
 use Rattle.report.specs.declared.Stage.the-variants as stage
@@ -35,11 +37,11 @@ use Rattle.chart.proofs.Relations.{acts-member}
 use Rattle.chart.proofs.Rows.{to-low}
 use Rattle.follower.specs.declared.Follower.{Follower}
 use Rattle.follower.specs.declared.Stepped.{Stepped}
-use Rattle.follower.specs.States.{InState, membersOf, setOf, stateWith, noState}
-use Rattle.follower.specs.Parts.{Same, VerticesFit, StepBy, CountOffered, wordOf, Tells}
+use Rattle.follower.specs.States.{stateIn, InState, Unspoilt, IsSpoilt, membersOf, setOf, stateWith, spoiltState, noState}
+use Rattle.follower.specs.Parts.{Same, VerticesFit, Fits, StepBy, CountOffered, wordOf, Tells}
 use Rattle.follower.specs.Calls.{stateStage, followedAs, answerOf, stateAfter, moved, ruledOf}
-use Rattle.follower.specs.FollowerAnswers.{SetPasses}
-use Rattle.follower.proofs.Calls.{tests-set, state-ready, state-unready}
+use Rattle.follower.specs.FollowerAnswers.{StateFits}
+use Rattle.follower.proofs.Calls.{unspoilt-kept, tests-state, state-ready, state-unready}
 use Rattle.bits.proofs.SetBytes.{set-length, set-bytes, same-bytes}
 use Rattle.follower.proofs.Bytes.{set-has, list-from→, list-from←, list-ascends, members-are}
 
@@ -52,6 +54,12 @@ read-same f {set} M v = (
   where
     zero-plus : (n : ℕ) → 0 + n ≡ n
     zero-plus n = omega arith
+
+-- and from the bytes that hold the state
+pub read-held : (s : List ℕ) {set : Set} → Members (λ (w : ℕ). On (getD s (0 + w / 8) 0) (w % 8)) set → Same set (membersOf (stateIn s))
+read-held s {set} M = read-same (stateIn s) (record {
+  exactly = λ w l. rw (getD-take 16 s (0 + w / 8) 0 (omega (arith, l))) (M .exactly w l);
+})
 
 -- the bytes of a set are those of a list with the same members
 pub bytes-same : {r : List ℕ} (xs : List ℕ) {set : Set} → BytesOf set r → Same set xs → r ≡ setOf xs
@@ -117,12 +125,12 @@ module _ (b : List ℕ) (W : WellFormed b) (B : Bytes b) where
       ∙ sym (ap followedAs (told-same S (T .counts .exactly) (T .holds-end) w))
 
   -- AN EVENT on a state whose set has a member
-  module _ (f : Follower) (a : ℕ) {set : Set} (S : Same set (membersOf f)) (fits : VerticesFit (verticesOf b) set) where
+  module _ (f : Follower) (a : ℕ) {set : Set} (S : Same set (membersOf f)) (fits : Fits (verticesOf b) set (f .mark)) where
     has-some : nonempty (membersOf f) ≡ true
     has-some = at (membersOf f) (λ v h. S v .0 h)
       where
         at : (xs : List ℕ) → ((v : ℕ) → Has set v → List·Memᴰ v xs) → nonempty xs ≡ true
-        at [] g = absurd (fits .0 (λ v h. List·Memᴰ·not-nil (g v h)))
+        at [] g = absurd (fits .0 .0 (λ v h. List·Memᴰ·not-nil (g v h)))
         at (x ∷ xs) g = refl
 
     -- the action has a target
@@ -136,24 +144,34 @@ module _ (b : List ℕ) (W : WellFormed b) (B : Bytes b) where
         from : (w : ℕ) × Image b set a w → Offered (system M) (MembersOf M (membersOf f)) a
         from (w, (u, h, k)) = (w, (u, S u .0 h, move-acts u a w .1 k))
 
-    module _ {step : Stepped} {x : Followed} (T : StepBy b set a step) (X : Tells b step x) where
-      -- it has none: the state stays
-      pub event-stays : step .taken ≡ false → moved x f ≡ ruledOf b f (event a)
+    -- the state is spoilt: it stays
+    pub event-stays : IsSpoilt f → moved Spoilt f ≡ ruledOf b f (event a)
+    unfolding answerOf stateAfter
+    event-stays u = rw (has-some, eq-eqb (f .mark) 1 u) (ap (moved Spoilt) (λ i. record { set = f .set; mark = u i }))
+
+    module _ (n : ¬ IsSpoilt f) {step : Stepped} {x : Followed} (T : StepBy b set a step) (X : Tells b step x) where
+      unspoilt : Unspoilt f
+      unspoilt = omega (arith, n, fits .1)
+
+      -- the action has no target: the state is spoilt
+      pub event-spoils : step .taken ≡ false → moved x (spoiltState f) ≡ ruledOf b f (event a)
       unfolding answerOf stateAfter
-      event-stays e =
+      event-spoils e =
           let (z, n) = T .stays e in
           let q = is-false offers (λ (w, i). n w i) in
           let K : Same (step .set) (membersOf f) = rw z S in
-          rw (has-some, q) (ap (λ (y : Followed). moved y f) (tells-same K X not-possible (λ end n. rw e refl)))
+          rw (has-some, unspoilt-kept unspoilt, q)
+          (ap (λ (y : Followed). moved y (spoiltState f)) (tells-same K X not-possible (λ end n. rw e refl)))
 
       -- it has some: the set becomes all of them
-      pub event-goes : step .taken ≡ true → {r : List ℕ} → BytesOf (step .set) r → moved x (stateWith r tt) ≡ ruledOf b f (event a)
+      pub event-goes : step .taken ≡ true → {r : List ℕ} → BytesOf (step .set) r → moved x (stateWith r false) ≡ ruledOf b f (event a)
       unfolding answerOf stateAfter
       event-goes e R =
           let (some, I) = T .goes e in
           let q = offers .1 (at-some some I) in
           let K = image-same S I in
-          rw (has-some, q) (ap₂ moved (tells-same K X taken (λ end n. rw e refl)) (ap (λ (s : List ℕ). stateWith s tt) (bytes-same _ R K)))
+          rw (has-some, unspoilt-kept unspoilt, q)
+          (ap₂ moved (tells-same K X taken (λ end n. rw e refl)) (ap (λ (s : List ℕ). stateWith s false) (bytes-same _ R K)))
         where
           at-some : ¬ Empty (step .set) → Members (Image b set a) (step .set) → (w : ℕ) × Image b set a w
           at-some n I = ⊎-elim (λ (w, l, h). (w, I .exactly w l .0 h)) (λ g. absurd (n (λ w h. g w (h .below) h)))
@@ -173,55 +191,63 @@ module _ (b : List ℕ) (W : WellFormed b) (B : Bytes b) where
 
   -- A RESTART: the start alone
   pub restart-goes : {step : Stepped} {x : Followed} {r : List ℕ} → ((y : ℕ) → Has (step .set) y ↔ (y ≡ startOf b)) → step .taken ≡ true
-      → Tells b step x → BytesOf (step .set) r → moved x (stateWith r tt) ≡ ruledOf b noState restart
+      → Tells b step x → BytesOf (step .set) r → moved x (stateWith r false) ≡ ruledOf b noState restart
   unfolding answerOf stateAfter
   restart-goes {step} H e X R =
       let K : Same (step .set) (startOf b ∷ []) = λ v. ((λ h. List·Memᴰ·head (H v .0 h)), (λ m. H v .1 (List·Memᴰ·eq-of-singleton m))) in
-      ap₂ moved (tells-same K X taken (λ end n. rw e refl)) (ap (λ (s : List ℕ). stateWith s tt) (bytes-same _ R K))
+      ap₂ moved (tells-same K X taken (λ end n. rw e refl)) (ap (λ (s : List ℕ). stateWith s false) (bytes-same _ R K))
 
 -- 53
-module _ {set : Set} where
-  pub fits-empty : {n : ℕ} → Empty set → (false ≡ true) ↔ VerticesFit n set
-  fits-empty e = ((λ f. absurd (true≢false (sym f))), (λ (s, g). absurd (s e)))
+module _ {set : Set} {mark : ℕ} where
+  pub fits-not : {n : ℕ} → ¬ Fits n set mark → (false ≡ true) ↔ Fits n set mark
+  fits-not g = ((λ f. absurd (true≢false (sym f))), (λ f. absurd (g f)))
 
-  pub fits-highest : {h n : ℕ} → Last set h → (ltb h n ≡ true) ↔ VerticesFit n set
-  fits-highest {h} {n} L = (
+  pub fits-highest : {h n : ℕ} → mark ≤ 1 → Last set h → (ltb h n ≡ true) ↔ Fits n set mark
+  fits-highest {h} {n} m L = (
     (λ e. let l = decides-ltb h n .0 e in (
-      (λ s. s h (L .has)),
-      λ w g. by-cases (decLt h w)
-          (λ k. absurd (L .above w k g)) (λ k. omega (arith, l, k)),
+      (
+        (λ s. s h (L .has)),
+        λ w g. by-cases (decLt h w)
+            (λ k. absurd (L .above w k g)) (λ k. omega (arith, l, k)),
+      ),
+      m,
     )),
-    (λ (s, g). decides-ltb h n .1 (g h (L .has))),
+    (λ ((s, g), m). decides-ltb h n .1 (g h (L .has))),
   )
 
--- what the code asks of the set is 53
-pub fits-passes : (b : List ℕ) (f : Follower) {set : Set} → Same set (membersOf f) → SetPasses b f ↔ VerticesFit (verticesOf b) set
+-- what the code asks of the set and of the mark is 53
+pub fits-passes : (b : List ℕ) (f : Follower) {set : Set} → Same set (membersOf f) → StateFits b f ↔ Fits (verticesOf b) set (f .mark)
 fits-passes b f {set} S = (to, from)
   where
     in-set : (v : ℕ) → InState f v ↔ Has set v
     in-set v = Iff·trans (Iff·symm (members-are f v)) (Iff·symm (S v))
 
-    to : SetPasses b f → VerticesFit (verticesOf b) set
-    to p = ((λ e. e _ (in-set _ .0 (p .some .1))), λ w h. p .below w (in-set w .1 h))
+    to : StateFits b f → Fits (verticesOf b) set (f .mark)
+    to p = (
+      ((λ e. e _ (in-set _ .0 (p .some .1))), λ w h. p .below w (in-set w .1 h)),
+      ⊎-elim (λ e. omega (arith, e)) (λ e. omega (arith, e)) (p .marked),
+    )
 
-    from : VerticesFit (verticesOf b) set → SetPasses b f
-    from (n, g) = record {
+    from : Fits (verticesOf b) set (f .mark) → StateFits b f
+    from ((n, g), m) = record {
+      marked = by-cases (ℕ-discrete (f .mark) 0) (λ e. inl e) (λ k. inr (omega (arith, m, k)));
       some = ⊎-elim (λ (x, l, h). (x, in-set x .1 h)) (λ k. absurd (n (λ w h. k w (h .below) h))) (look-below (has? set) 128);
       below = λ w i. g w (in-set w .0 i);
     }
 
 -- the stage that the code answers
-abbrev pub Readied : List ℕ → Set → Stage → Type 0
-Readied b set r = (VerticesFit (verticesOf b) set → r ≡ stage.Passed) × (¬ VerticesFit (verticesOf b) set → r ≡ stage.Refused place.FollowerSet)
+abbrev pub Readied : List ℕ → Set → ℕ → Stage → Type 0
+Readied b set mark r =
+    (Fits (verticesOf b) set mark → r ≡ stage.Passed) × (¬ Fits (verticesOf b) set mark → r ≡ stage.Refused place.FollowerSet)
 
-module _ (b : List ℕ) (f : Follower) {set : Set} {r : Stage} (S : Same set (membersOf f)) (R : Readied b set r) where
+module _ (b : List ℕ) (f : Follower) {set : Set} {r : Stage} (S : Same set (membersOf f)) (R : Readied b set (f .mark) r) where
   pub ready-stage : r ≡ stateStage b f
-  ready-stage = by-cases (decided (tests-set b f))
+  ready-stage = by-cases (decided (tests-state b f))
       (λ p. R .0 (fits-passes b f S .0 p) ∙ sym (state-ready p))
       (λ n. R .1 (λ p. n (fits-passes b f S .1 p)) ∙ sym (state-unready n))
 
-  pub ready-fits : r ≡ stage.Passed → VerticesFit (verticesOf b) set
-  ready-fits e = by-cases (decided (tests-set b f))
+  pub ready-fits : r ≡ stage.Passed → Fits (verticesOf b) set (f .mark)
+  ready-fits e = by-cases (decided (tests-state b f))
       (λ p. fits-passes b f S .0 p)
       (λ n. let q : stage.Refused place.FollowerSet ≡ stage.Passed = sym (R .1 (λ p. n (fits-passes b f S .1 p))) ∙ e in
       let z : _≡_ {A = ℕ} 0 1 = cc in absurd (omega arith))

@@ -1,24 +1,27 @@
 -- The shortest way: what the definitions answer and leave is what document 02 says, both ways; and so is what the code finds.
 use Prim.Native.Nat.{ℕ, _*_, _+_, _≤_, _<_}
 use mathlib.Core.Path.{_≡_, refl, sym, ap, _∙_, subst}
-use mathlib.Core.Logic.{_↔_, Iff·symm, Iff·trans, by-cases}
+use mathlib.Core.Logic.{_⊎_, ⊎-elim, _↔_, Iff·symm, Iff·trans, by-cases}
+use mathlib.Core.Bool.{true, false, true≢false}
 use mathlib.Core.List.{List, map, List·Memᴰ, Memᴰ·of-map, _++_}
 use native.Mathlib.Decide.{ℕ-discrete, decLt}
 use native.Mathlib.Nat.{le-refl}
 use native.Mathlib.Omega.{arith}
 use lib.ListN.{length, drop}
+use lib.Dec.{eqb}
 use borrow.Author.Tests.{eq-eqb, ne-eqb, lt-ltb, le-ltb}
 use Rattle.theory.specs.Least.{Least}
 use Rattle.theory.specs.Systems.{System}
-use Rattle.theory.specs.Followers.{StateSet, HoldsEnd, Follows}
-use Rattle.theory.specs.Events.{event, Answer, taken, eventRule}
+use Rattle.theory.specs.Followers.{HoldsEnd}
+use Rattle.theory.specs.Events.{event}
 use Rattle.theory.specs.Runs.{Machine, system, MembersOf}
 use Rattle.theory.specs.Ways.{Shortest, EndsFrom, LowestOf}
 use Rattle.theory.proofs.Search.{least-one}
 use Rattle.theory.proofs.Tests.{decided}
 use Rattle.theory.proofs.Systems.{lift-equal}
 use Rattle.theory.proofs.Runs.{chart-machine}
-use Rattle.theory.proofs.Ways.{one-shortest, shortest-same, shortest-path, no-list, ends-follow, ends-carried, ends-short, shortest-few, one-lowest, lowest-carried}
+use Rattle.theory.proofs.Ways.{one-shortest, shortest-same, spoilt-stays, ends-unspoilt, ends-taken, ends-carried, ends-short, shortest-few, one-lowest, lowest-carried}
+use Rattle.theory.specs.WayTests.{stepsToEnd}
 use Rattle.theory.proofs.WayTests.{SomeEndsIn, steps-least, steps-none, list-long, lowest-list, shortest-list}
 use Rattle.report.specs.declared.Place.{Place}
 use Rattle.report.specs.declared.Place.the-variants as place
@@ -36,7 +39,7 @@ use Rattle.chart.proofs.Checks.{well-formed, passes}
 use Rattle.chart.proofs.Refusals.{chart-refused}
 use Rattle.chart.proofs.Relations.{acts-member}
 use Rattle.follower.specs.declared.Follower.{Follower}
-use Rattle.follower.specs.States.{stateSize, stateIn, InState, membersOf}
+use Rattle.follower.specs.States.{stateSize, stateIn, InState, Unspoilt, IsSpoilt, membersOf}
 use Rattle.follower.specs.Calls.{stateStage, followedAs}
 use Rattle.follower.specs.Ways.{eventsToEnd, shortestList, bytesStage, wayOf, wayLeft}
 use Rattle.follower.specs.WayAnswers.{eventAnswers, afterEvents, EndsAfter, ShortestWay, OnlyTaken, NoEnd, StatePasses, WayAnswer, other-chart, no-state, no-way, too-short, written}
@@ -44,7 +47,7 @@ use Rattle.follower.specs.Layers as layers
 use Rattle.follower.specs.Layers.{SomeEnds, WayFrom}
 use Rattle.follower.specs.Parts.{Same}
 use Rattle.follower.proofs.Bytes.{members-are}
-use Rattle.follower.proofs.Calls.{formed-in, tests-set, state-ready, state-unready}
+use Rattle.follower.proofs.Calls.{formed-in, unspoilt-kept, kept-unspoilt, tests-state, state-ready, state-unready}
 use Rattle.follower.proofs.Lists.{Holding, RunRuled, lent-run}
 use Rattle.follower.proofs.Finds.{move-acts}
 
@@ -62,19 +65,19 @@ both-sym (p, q) = (sym p, sym q)
 
 -- THE STAGE of 53: bytes that hold a state that is ready pass, and others don't
 bytes-ready : {b s : List ℕ} → StatePasses b s → bytesStage b s ≡ stage.Passed
-bytes-ready {b} {s} P = rw (eq-eqb (length s) stateSize (P .long)) (state-ready (P .set))
+bytes-ready {b} {s} P = rw (eq-eqb (length s) stateSize (P .long)) (state-ready (P .fits))
 
 bytes-unready : {b s : List ℕ} → WellFormed b → ¬ StatePasses b s → bytesStage b s ≡ stage.Refused place.FollowerSet
 bytes-unready {b} {s} W n =
     by-cases (ℕ-discrete (length s) stateSize)
-    (λ l. rw (eq-eqb (length s) stateSize l) (state-unready (λ p. n (record { chart = W; long = l; set = p }))))
+    (λ l. rw (eq-eqb (length s) stateSize l) (state-unready (λ p. n (record { chart = W; long = l; fits = p }))))
     (λ l. rw (ne-eqb (length s) stateSize l) refl)
 
 passes? : {b : List ℕ} (s : List ℕ) → WellFormed b → Dec (StatePasses b s)
 passes? {b} s W =
     by-cases (ℕ-discrete (length s) stateSize)
-    (λ l. by-cases (decided (tests-set b (stateIn s)))
-    (λ p. yes (record { chart = W; long = l; set = p })) (λ n. no (λ P. n (P .set))))
+    (λ l. by-cases (decided (tests-state b (stateIn s)))
+    (λ p. yes (record { chart = W; long = l; fits = p })) (λ n. no (λ P. n (P .fits))))
     (λ l. no (λ P. l (P .long)))
 
 -- STATES THAT PASS
@@ -89,23 +92,31 @@ module _ {b s : List ℕ} (B : Bytes b) (D : Bytes s) (P : StatePasses b s) wher
   f = stateIn s
 
   holds : Holding (P .chart) s
-  holds = record { long = P .long; formed = formed-in D (P .long) }
+  holds = record { long = P .long; formed = formed-in s D (P .long) }
 
-  -- by the follower's own events
-  follows : (xs : List ℕ) → (Q : StateSet C) × (rs : List Answer)
-      × Follows eventRule C (InState f) tt (map event xs) rs Q tt × (EndsAfter b s xs ↔ HoldsEnd C Q)
-  follows xs =
-      let R = lent-run (P .chart) s holds (P .set) (map event xs) in (
-        InState (stateIn (afterEvents b s xs)),
-        R .answers,
-        R .follows,
-        ((λ h. (0, h, refl)), (λ (x, h, e). subst (InState (stateIn (afterEvents b s xs))) e h)),
+  -- by the follower's own events: from a spoilt state never, from another by a path in the chart
+  abbrev left : List ℕ → Follower
+  left xs = stateIn (afterEvents b s xs)
+
+  pub spoilt-never : IsSpoilt f → NoEnd b s
+  spoilt-never u xs (n, e) =
+      let R = lent-run (P .chart) s holds (P .fits) (map event xs) in
+      let k = spoilt-stays C xs (rw (eq-eqb (f .mark) 1 u) at (R .follows)) in
+      true≢false (sym k ∙ unspoilt-kept n)
+
+  by-paths : Unspoilt f → (xs : List ℕ) → EndsAfter b s xs ↔ EndsFrom C (InState f) xs
+  by-paths u xs =
+      let R = lent-run (P .chart) s holds (P .fits) (map event xs) in
+      let E = ends-unspoilt C xs (P .fits .some) (rw (unspoilt-kept u) at (R .follows)) in (
+        (λ (n, e). E .0 (unspoilt-kept n, (0, e, refl))),
+        (λ p. let (k, (x, h, e)) = E .1 p in (kept-unspoilt (R .fits .marked) k, subst (InState (left xs)) e h)),
       )
 
-  -- by paths in the chart, and in its machine
-  by-paths : (xs : List ℕ) → ShortestWay b s xs ↔ Shortest (EndsFrom C (InState f)) xs
-  by-paths = shortest-path C follows
+  -- a list that does it is only found where the state is not spoilt
+  found-unspoilt : (xs : List ℕ) → EndsAfter b s xs → Unspoilt f
+  found-unspoilt xs e = ⊎-elim (λ u. u) (λ u. absurd (spoilt-never u xs e)) (P .fits .marked)
 
+  -- and in its machine
   carried : (xs : List ℕ) → EndsFrom (system M) (MembersOf M (membersOf f)) xs ↔ EndsFrom C (InState f) xs
   carried = ends-carried (chart-machine _ _) (lift-equal (members-are f))
 
@@ -118,20 +129,32 @@ module _ {b s : List ℕ} (B : Bytes b) (D : Bytes s) (P : StatePasses b s) wher
   action-byte u a w m = let t = move-acts b (P .chart) B u a w .0 m in omega (arith, t .holds .is, B (4 * t .at + 4 + 1))
 
   -- THE TESTS FIND IT: the list, and how long it is
+  spoilt-events : IsSpoilt f → eventsToEnd b s ≡ verticesOf b
+  unfolding eventsToEnd
+  spoilt-events u = rw (eq-eqb (f .mark) 1 u) refl
+
+  unspoilt-events : Unspoilt f → eventsToEnd b s ≡ stepsToEnd M (verticesOf b) (membersOf f)
+  unfolding eventsToEnd
+  unspoilt-events u = rw (unspoilt-kept u) refl
+
+  low-unspoilt : eventsToEnd b s < verticesOf b → Unspoilt f
+  low-unspoilt h = ⊎-elim (λ u. u) (λ u. absurd (omega (arith, h, spoilt-events u))) (P .fits .marked)
+
   pub list-found : eventsToEnd b s < verticesOf b → ShortestWay b s (shortestList b s)
-  unfolding eventsToEnd shortestList
+  unfolding shortestList
   list-found h =
-      by-paths _ .1 (shortest-same carried _ .0 (shortest-list M action-byte (verticesOf b) (membersOf (stateIn s)) h))
+      let u = low-unspoilt h in
+      let e = unspoilt-events u in
+      shortest-same (by-paths u) _ .1
+      (shortest-same carried _ .0 (rw e (shortest-list M action-byte (verticesOf b) (membersOf (stateIn s)) (omega (arith, e, h)))))
 
   pub none-found : verticesOf b ≤ eventsToEnd b s → NoEnd b s
-  unfolding eventsToEnd
-  none-found h = no-list C follows .0 none
-    where
-      none : (xs : List ℕ) → ¬ EndsFrom C (InState f) xs
-      none xs (x, i, e) =
-          let (ys, l, f) = ends-short (startOf b) target-low (length xs) (le-refl _) (P .set .below x i) e in
-          let (y, m, g) = carried ys .1 (x, i, f) in
-          steps-none M (verticesOf b) (membersOf (stateIn s)) h (length ys) l (y, m, (ys, refl, g))
+  none-found h xs a =
+      let u = found-unspoilt xs a in
+      let (x, i, e) = by-paths u xs .0 a in
+      let (ys, l, f) = ends-short (startOf b) target-low (length xs) (le-refl _) (P .fits .below x i) e in
+      let (y, m, g) = carried ys .1 (x, i, f) in
+      steps-none M (verticesOf b) (membersOf (stateIn s)) (omega (arith, h, unspoilt-events u)) (length ys) l (y, m, (ys, refl, g))
 
   pub found-low : {xs : List ℕ} → ShortestWay b s xs → eventsToEnd b s < verticesOf b
   found-low {xs} S =
@@ -152,13 +175,14 @@ module _ {b s : List ℕ} (B : Bytes b) (D : Bytes s) (P : StatePasses b s) wher
 
   -- A SHORTEST LIST has fewer events than there are vertices, and all of them are taken
   pub way-few : {xs : List ℕ} → ShortestWay b s xs → length xs < verticesOf b
-  way-few S = shortest-few (startOf b) target-low (P .set .below) (by-paths _ .0 S)
+  way-few {xs} S = shortest-few (startOf b) target-low (P .fits .below) (shortest-same (by-paths (found-unspoilt xs (S .holds))) _ .0 S)
 
   pub way-taken : {xs : List ℕ} → ShortestWay b s xs → OnlyTaken (eventAnswers b s xs)
   way-taken {xs} S y m =
-      let R = lent-run (P .chart) s holds (P .set) (map event xs) in
+      let R = lent-run (P .chart) s holds (P .fits) (map event xs) in
+      let u = found-unspoilt xs (S .holds) in
       let (x, i, q) = Memᴰ·of-map followedAs (R .answers) (rw (R .written) at m) in
-      let (w, e) = ends-follow C xs (R .follows) (by-paths xs .0 S .holds) .1 x i in
+      let (w, e) = ends-taken C xs (rw (unspoilt-kept u) at (R .follows)) (by-paths u xs .0 (S .holds)) x i in
       (w .end, length (w .offered), sym q ∙ ap followedAs e)
 
   -- 20, 21 AND 53 PASSED: 55, 54, and the list
@@ -244,7 +268,12 @@ module _ (b s out : List ℕ) (B : Bytes b) (D : Bytes s) where
   way-says x t = ((λ (p, q). rw (p, q) at way-answer), answer-way)
 
 -- THE CODE'S ANSWER, of a set that has the state's vertices
-module _ {b s : List ℕ} (B : Bytes b) (D : Bytes s) (P : StatePasses b s) {set : Set} (S : Same set (membersOf (stateIn s))) where
+pub spoilt-way : {b s out : List ℕ} → Bytes b → Bytes s → StatePasses b s → IsSpoilt (stateIn s) → WayGives b s out NoWay out
+spoilt-way {out = out} B D P u = way-none B D P out (omega (arith, spoilt-events B D P u))
+
+-- where the state is not spoilt
+module _ {b s : List ℕ} (B : Bytes b) (D : Bytes s) (P : StatePasses b s) (u : Unspoilt (stateIn s))
+    {set : Set} (S : Same set (membersOf (stateIn s))) where
   listed : (xs : List ℕ) → EndsFrom (system (machineOf b)) (MembersOf (machineOf b) (membersOf (stateIn s))) xs
       ↔ EndsFrom (systemOf b) (Has set) xs
   listed = ends-carried (chart-machine _ _) (lift-equal (λ v. Iff·symm (S v)))
@@ -255,10 +284,15 @@ module _ {b s : List ℕ} (B : Bytes b) (D : Bytes s) (P : StatePasses b s) {set
     (λ (x, m, (xs, l, e)). let (y, h, f) = listed xs .1 (x, m, e) in (y, h, (xs, l, f))),
   )
 
+  -- as many steps as from the list of its vertices
+  steps : ℕ
+  steps = stepsToEnd (machineOf b) (verticesOf b) (membersOf (stateIn s))
+
   same-number : {d : ℕ} → d < verticesOf b → Least (SomeEnds b set) d → eventsToEnd b s ≡ d
-  unfolding eventsToEnd
+  unfolding steps
   same-number {d} l L =
-      by-cases (decLt (eventsToEnd b s) (verticesOf b))
+      unspoilt-events B D P u ∙
+      by-cases (decLt steps (verticesOf b))
       (λ h. let K = steps-least (machineOf b) (verticesOf b) (membersOf (stateIn s)) h in
       least-one (record { holds = some-listed _ .0 (K .holds); lowest = λ k g e. K .lowest k g (some-listed k .1 e) }) L)
       (λ h. absurd (steps-none (machineOf b) (verticesOf b) (membersOf (stateIn s)) (omega arith) d l (some-listed d .1 (L .holds))))
@@ -271,10 +305,10 @@ module _ {b s : List ℕ} (B : Bytes b) (D : Bytes s) (P : StatePasses b s) {set
       (rw e (lowest-carried listed (lowest-list (machineOf b) (action-byte B D P) d (membersOf (stateIn s)) (some-listed d .1 (L .holds)))))
 
   pub found-way : {out t : List ℕ} {x : Way} → WayFrom b set out x t → WayGives b s out x t
-  unfolding eventsToEnd
-  found-way {out} (layers.no-way f) = way-none B D P out (by-cases (decLt (eventsToEnd b s) (verticesOf b))
+  unfolding steps
+  found-way {out} (layers.no-way f) = way-none B D P out (by-cases (decLt steps (verticesOf b))
       (λ h. absurd (f _ h (some-listed _ .0 (steps-least (machineOf b) (verticesOf b) (membersOf (stateIn s)) h .holds))))
-      (λ h. omega arith))
+      (λ h. omega (arith, h, unspoilt-events B D P u)))
   found-way {out} (layers.too-short {d} l L n) =
       let e = same-number l L in
       subst (λ (k : ℕ). WayGives b s out (Refused (place.OutputLength k)) out) e

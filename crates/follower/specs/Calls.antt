@@ -6,10 +6,10 @@ use lib.Dec.{eqb, leb}
 use lib.ListN.{length}
 use Rattle.theory.specs.Tests.{someIn}
 use Rattle.theory.specs.Followers.{Effect, keep, fresh, empty, go}
-use Rattle.theory.specs.Events.{Call, restart, event, Answer, answer, refused-53, taken, not-possible, eventRule}
+use Rattle.theory.specs.Events.{Call, restart, event, Answer, answer, spoilt, refused-53, taken, not-possible, eventRule}
 use Rattle.theory.specs.Runs.{nonempty, viewOf, leftBy, callOn}
 use Rattle.report.specs.declared.Followed.{Followed}
-use Rattle.report.specs.declared.Followed.the-variants.{Taken, NotPossible, Refused}
+use Rattle.report.specs.declared.Followed.the-variants.{Taken, NotPossible, Spoilt, Refused}
 use Rattle.report.specs.declared.Place.the-variants as place
 use Rattle.report.specs.declared.Stage.{Stage}
 use Rattle.report.specs.declared.Stage.the-variants as stage
@@ -20,22 +20,23 @@ use Rattle.follower.specs.declared.Follower.{Follower}
 use Rattle.follower.specs.declared.Moved.{Moved}
 use Rattle.follower.specs.States.{stateSize, bytesIn, stateIn, membersOf, setOf, keptIn, stateWith}
 
--- IS THE STATE READY: 53, some vertex is in the set, and none of V or above
-unfoldable pub setTest : List ℕ → Follower → Bool
-setTest b f = nonempty (membersOf f) && not (someIn (leb (verticesOf b)) (membersOf f))
+-- IS THE STATE READY: 53, some vertex is in the set, and none of V or above, and the mark is 0 or 1
+unfoldable pub stateTest : List ℕ → Follower → Bool
+stateTest b f = (nonempty (membersOf f) && not (someIn (leb (verticesOf b)) (membersOf f))) && leb (f .mark) 1
 
 abbrev pub stateStage : List ℕ → Follower → Stage
-stateStage b f = cond (setTest b f) stage.Passed (stage.Refused place.FollowerSet)
+stateStage b f = cond (stateTest b f) stage.Passed (stage.Refused place.FollowerSet)
 
 -- which is asked of an event only
 abbrev pub readyOf : List ℕ → Follower → Call → Stage
 readyOf b f restart = stage.Passed
 readyOf b f (event a) = stateStage b f
 
--- THE RULE over a body that passes and a state that is ready. Document 01's answer for each of the rule's
+-- THE RULE over a body that passes and a state that is ready. The documents' answer for each of the rule's
 abbrev pub followedAs : Answer → Followed
 followedAs (answer taken end offered) = Taken end offered
 followedAs (answer not-possible end offered) = NotPossible end offered
+followedAs spoilt = Spoilt
 followedAs refused-53 = Refused place.FollowerSet
 
 unfoldable pub answerOf : List ℕ → Follower → Call → Followed

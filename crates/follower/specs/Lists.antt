@@ -2,10 +2,12 @@
 -- to an answer and a state. A list begins at a fresh start.
 use Prim.Native.Nat.{ℕ}
 use mathlib.Core.Path.{_≡_}
+use mathlib.Core.Bool.{Bool, false}
 use mathlib.Core.List.{List, map}
 use Rattle.theory.specs.Followers.{Responds, Follows, Answers}
 use Rattle.theory.specs.Events.{Call, restart, event, Answer, eventRule}
 use Rattle.report.specs.declared.Followed.{Followed}
+use Rattle.report.specs.Numbers.{flag}
 use Rattle.chart.specs.Systems.{systemOf}
 use Rattle.follower.specs.declared.Follower.{Follower}
 use Rattle.follower.specs.declared.Moved.{Moved}
@@ -32,11 +34,14 @@ RuleResponds b f c x g = Responds eventRule (systemOf b) (InState f) (keptIn f) 
 abbrev pub RuleFollows : List ℕ → Follower → List Call → List Answer → Follower → Type 1
 RuleFollows b f cs xs g = Follows eventRule (systemOf b) (InState f) (keptIn f) cs xs (InState g) (keptIn g)
 
-abbrev pub RuleAnswers : List ℕ → List Call → List Answer → Type 1
-RuleAnswers b cs xs = Answers eventRule (systemOf b) tt cs xs
+abbrev pub RuleAnswers : List ℕ → List Call → List Answer → Bool → Type 1
+RuleAnswers b cs xs spoilt = Answers eventRule (systemOf b) false cs xs spoilt
 
--- the answers to a list of calls are the rule's over the chart of the body, from a fresh start
-pub record ByRule (b : List ℕ) (cs : List Call) (ys : List Followed) : Type 1 where
+-- the answers to a list of calls are the rule's over the chart of the body, from a fresh start, and so is the mark of the state
+-- that they leave
+pub record ByRule (b : List ℕ) (cs : List Call) (ys : List Followed) (left : Follower) : Type 1 where
   pub answers : List Answer
   pub written : ys ≡ map followedAs answers
-  pub rule : RuleAnswers b cs answers
+  pub spoilt : Bool
+  pub marked : left .mark ≡ flag spoilt
+  pub rule : RuleAnswers b cs answers spoilt

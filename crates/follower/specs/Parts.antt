@@ -1,5 +1,5 @@
 -- What the parts of the follower's code answer.
-use Prim.Native.Nat.{ℕ, _<_}
+use Prim.Native.Nat.{ℕ, _≤_, _<_}
 use mathlib.Core.Path.{_≡_}
 use mathlib.Core.Bool.{Bool, true, false}
 use mathlib.Core.List.{List, List·Memᴰ}
@@ -17,9 +17,12 @@ use Rattle.follower.specs.declared.Stepped.{Stepped}
 abbrev pub Same : Set → List ℕ → Type 0
 Same set xs = (v : ℕ) → Has set v ↔ List·Memᴰ v xs
 
--- what 53 asks of a set, for so many vertices
+-- what 53 asks of a set and of a mark, for so many vertices
 abbrev pub VerticesFit : ℕ → Set → Type 0
 VerticesFit vertices set = (¬ Empty set) × ((w : ℕ) → Has set w → w < vertices)
+
+abbrev pub Fits : ℕ → Set → ℕ → Type 0
+Fits vertices set mark = VerticesFit vertices set × (mark ≤ 1)
 
 -- THE STEP from a set by an action: it is taken where the action has a target, and then the set has all of them; else it stays
 pub record StepBy (b : List ℕ) (set : Set) (a : ℕ) (r : Stepped) : Type 0 where

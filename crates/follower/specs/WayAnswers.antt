@@ -1,5 +1,5 @@
--- What document 02 says of each answer of the shortest way (C-11), and of the lent bytes after it; by the follower's own
--- events.
+-- What document 02 says of each answer of the shortest way (C-11, C-15), and of the lent bytes after it; by the follower's
+-- own events.
 use Prim.Native.Nat.{ℕ, _<_, _≤_}
 use mathlib.Core.Path.{_≡_}
 use mathlib.Core.Bool.{Bool}
@@ -17,8 +17,8 @@ use Rattle.report.specs.declared.Way.the-variants.{Length, Refused, NoWay}
 use Rattle.bits.specs.Bits.{bytesWith}
 use Rattle.chart.specs.Bodies.{WellFormed}
 use Rattle.chart.specs.Refusals.{ChartRefused}
-use Rattle.follower.specs.States.{stateSize, stateIn, InState}
-use Rattle.follower.specs.FollowerAnswers.{SetPasses}
+use Rattle.follower.specs.States.{stateSize, stateIn, InState, Unspoilt}
+use Rattle.follower.specs.FollowerAnswers.{StateFits}
 use Rattle.follower.specs.Calls.{lentOn}
 
 -- EVENTS from a state, each on the bytes that the one before left: the answers, and the bytes after them
@@ -28,12 +28,12 @@ eventAnswers b s xs = run (lentOn b) (map event xs) s
 abbrev pub afterEvents : (b s xs : List ℕ) → List ℕ
 afterEvents b s xs = runLeaves (lentOn b) (map event xs) s
 
--- after these events the end is in the set
+-- after these events the end is in the set, and the state is not spoilt
 abbrev pub EndsAfter : (b s xs : List ℕ) → Type 0
-EndsAfter b s xs = InState (stateIn (afterEvents b s xs)) 0
+EndsAfter b s xs = Unspoilt (stateIn (afterEvents b s xs)) × InState (stateIn (afterEvents b s xs)) 0
 
--- THE SHORTEST WAY from a state: after it the end is in the set, no shorter list does it, and of the lists of its length that
--- do none is lower at the first place where they differ
+-- THE SHORTEST WAY from a state: after it the end is in the set, the state not spoilt, no shorter list does it, and of the lists
+-- of its length that do none is lower at the first place where they differ
 abbrev pub ShortestWay : (b s xs : List ℕ) → Type 0
 ShortestWay b s = Shortest (EndsAfter b s)
 
@@ -49,7 +49,7 @@ NoEnd b s = (xs : List ℕ) → ¬ EndsAfter b s xs
 pub record StatePasses (b s : List ℕ) : Type 0 where
   pub chart : WellFormed b
   pub long : length s ≡ stateSize
-  pub set : SetPasses b (stateIn s)
+  pub fits : StateFits b (stateIn s)
 
 -- EACH ANSWER, with the lent bytes after it; a refusal leaves them as they were
 pub data WayAnswer (b s out : List ℕ) : Way → List ℕ → Type 0 where

@@ -1,5 +1,5 @@
--- The shortest way (document 02, C-11) from a follower's state to the end, as tests that run: the answer, and the lent bytes
--- after it.
+-- The shortest way (document 02, C-11 and C-15) from a follower's state to the end, as tests that run: the answer, and the lent
+-- bytes after it.
 use Prim.Native.Nat.{ℕ}
 use mathlib.Core.Bool.{cond}
 use mathlib.Core.List.{List}
@@ -15,12 +15,12 @@ use Rattle.bits.specs.Bits.{bytesWith}
 use Rattle.chart.specs.Bodies.{verticesOf}
 use Rattle.chart.specs.Checks.{checkOf}
 use Rattle.chart.specs.Systems.{machineOf}
-use Rattle.follower.specs.States.{stateSize, stateIn, membersOf}
+use Rattle.follower.specs.States.{stateSize, stateIn, membersOf, keptIn}
 use Rattle.follower.specs.Calls.{stateStage}
 
--- how many events it takes from a state, or V where no list does it; and the list
+-- how many events it takes from a state, or V where no list does it, as from every spoilt state; and the list
 unfoldable pub eventsToEnd : List ℕ → List ℕ → ℕ
-eventsToEnd b s = stepsToEnd (machineOf b) (verticesOf b) (membersOf (stateIn s))
+eventsToEnd b s = cond (keptIn (stateIn s)) (verticesOf b) (stepsToEnd (machineOf b) (verticesOf b) (membersOf (stateIn s)))
 
 unfoldable pub shortestList : List ℕ → List ℕ → List ℕ
 shortestList b s = lowestList (machineOf b) (eventsToEnd b s) (membersOf (stateIn s))

@@ -23,17 +23,18 @@ ghost use Rattle.chart.specs.Bodies.{verticesOf};
 ghost use Rattle.chart.specs.Checks.{checkOf};
 ghost use Rattle.chart.specs.Leaving.{Begins};
 ghost use Rattle.follower.specs.States.{stateSize, bytesIn, stateIn, membersOf, noState};
-ghost use Rattle.follower.specs.Parts.{Same, VerticesFit, StepBy, CountOffered, Tells};
+ghost use Rattle.follower.specs.Parts.{Same, Fits, StepBy, CountOffered, Tells};
 ghost use Rattle.follower.specs.Calls.{ruledOf, calledOn, lentOn, otherLength};
 ghost use Rattle.follower.specs.Ways.{wayOf, wayLeft};
 
-// The state: a set of vertices in sixteen bytes, bits as in a row of a relation.
+// The state: a set of vertices in sixteen bytes, bits as in a row of a relation, and a mark, 1 where it is spoilt, else 0.
 pub struct Follower {
     pub set: [u8; 16],
+    pub mark: u8,
 }
 
 // How many bytes a state has.
-pub const STATE_SIZE: usize = 16;
+pub const STATE_SIZE: usize = 17;
 
 // What a call by value hands back: its answer, and the state after it.
 pub struct Moved {
@@ -47,10 +48,13 @@ struct Stepped {
     set: Set,
 }
 
-// Whether 53 passes: some vertex is in the set, and none of V or above.
-fn set_fits(set: Set, vertices: usize) -> bool
-    ensures { λ r. ⌜ (r ≡ true) ↔ VerticesFit vertices set ⌝ }
+// Whether 53 passes: some vertex is in the set, and none of V or above, and the mark is 0 or 1.
+fn state_fits(set: Set, mark: u8, vertices: usize) -> bool
+    ensures { λ r. ⌜ (r ≡ true) ↔ Fits vertices set mark ⌝ }
 {
+    if 1 < mark {
+        return false;
+    }
     if set.is_empty() {
         return false;
     }
@@ -58,13 +62,13 @@ fn set_fits(set: Set, vertices: usize) -> bool
     highest.at < vertices
 }
 
-// 53 of a set.
-fn ready(chart: &[u8], set: Set) -> Stage
+// 53 of a set and its mark.
+fn ready(chart: &[u8], set: Set, mark: u8) -> Stage
     requires { ⌜ checkOf (now chart) ≡ Stage.Passed ⌝ }
-    ensures { λ r. ⌜ (VerticesFit (verticesOf (now (chart .entry))) set → r ≡ Stage.Passed)
-        × (¬ VerticesFit (verticesOf (now (chart .entry))) set → r ≡ Stage.Refused Place.FollowerSet) ⌝ }
+    ensures { λ r. ⌜ (Fits (verticesOf (now (chart .entry))) set mark → r ≡ Stage.Passed)
+        × (¬ Fits (verticesOf (now (chart .entry))) set mark → r ≡ Stage.Refused Place.FollowerSet) ⌝ }
 {
-    if set_fits(set, byte(chart, 0)) {
+    if state_fits(set, mark, byte(chart, 0)) {
         return Stage::Passed;
     }
     Stage::Refused(Place::FollowerSet)
@@ -112,19 +116,30 @@ fn told(chart: &[u8], begins: &[usize; 129], step: Stepped) -> Followed
 fn event_from(chart: &[u8], follower: Follower, set: Set, action: u8) -> Moved
     requires { ⌜ (checkOf (now chart) ≡ Stage.Passed)
         × Same set (membersOf follower)
-        × VerticesFit (verticesOf (now chart)) set ⌝ }
+        × Fits (verticesOf (now chart)) set (follower .mark) ⌝ }
     ensures { λ r. ⌜ r ≡ ruledOf (now (chart .entry)) follower (event action) ⌝ }
 {
+    let mark = follower.mark;
+    if mark == 1 {
+        return Moved {
+            answer: Followed::Spoilt,
+            follower,
+        };
+    }
     let begins = chart::begins(chart);
     let step = self::step(chart, &begins, set, action as usize);
     let answer = told(chart, &begins, step);
     if !step.taken {
-        return Moved { answer, follower };
+        let kept = follower.set;
+        return Moved {
+            answer,
+            follower: Follower { set: kept, mark: 1 },
+        };
     }
     let left = set_bytes(step.set);
     Moved {
         answer,
-        follower: Follower { set: left },
+        follower: Follower { set: left, mark: 0 },
     }
 }
 
@@ -135,7 +150,7 @@ fn event_on(chart: &[u8], follower: Follower, action: u8) -> Moved
 {
     let bytes = follower.set;
     let set = read_set(&bytes, 0);
-    match ready(chart, set) {
+    match ready(chart, set, follower.mark) {
         Stage::Refused(place) => Moved {
             answer: Followed::Refused(place),
             follower,
@@ -168,7 +183,7 @@ fn restart_on(chart: &[u8]) -> Moved
     let left = set_bytes(set);
     Moved {
         answer,
-        follower: Follower { set: left },
+        follower: Follower { set: left, mark: 0 },
     }
 }
 
@@ -185,11 +200,17 @@ fn restart_from(follower: Follower, chart: &[u8]) -> Moved
     }
 }
 
-// A restart. A refusal hands back the empty set.
+// A restart. A refusal hands back the empty set, not spoilt.
 pub fn restart(chart: &[u8]) -> Moved
     ensures { λ r. ⌜ r ≡ calledOn (now (chart .entry)) noState restart ⌝ }
 {
-    restart_from(Follower { set: [0u8; 16] }, chart)
+    restart_from(
+        Follower {
+            set: [0u8; 16],
+            mark: 0,
+        },
+        chart,
+    )
 }
 
 // The state that lent bytes hold.
@@ -203,7 +224,10 @@ fn state_of(state: &[u8]) -> Follower
         set[i] = state[i];
         i += 1;
     }
-    Follower { set }
+    Follower {
+        set,
+        mark: state[16],
+    }
 }
 
 // Writes a state into lent bytes.
@@ -217,6 +241,7 @@ fn put_state(state: &mut [u8], follower: Follower)
         state[i] = set[i];
         i += 1;
     }
+    state[16] = follower.mark;
 }
 
 // 53 of another number of lent bytes than the state's, after 20 and 21.
@@ -300,7 +325,8 @@ pub fn restart_through(follower: Follower, chart: &[u8]) -> Moved
 }
 
 // Writes the shortest list of events after which the end is in the set of a state, of those the lowest, to the beginning of
-// the lent bytes; those past it are kept. The state is only read. A refusal changes no lent byte.
+// the lent bytes; those past it are kept. The state is only read; from a spoilt one no list does it. A refusal changes no
+// lent byte.
 pub fn shortest_way(chart: &[u8], state: &[u8], out: &mut [u8]) -> Way
     ensures { λ r. ⌜ (r ≡ wayOf (now (chart .entry)) (now (state .entry)) (length (now (out .entry))))
         × (now (out .exit) ≡ wayLeft (now (chart .entry)) (now (state .entry)) (now (out .entry))) ⌝ }
@@ -314,9 +340,16 @@ pub fn shortest_way(chart: &[u8], state: &[u8], out: &mut [u8]) -> Way
     if state.len() != STATE_SIZE {
         return Way::Refused(Place::FollowerSet);
     }
+    let mark = state[16];
     let set = read_set(state, 0);
-    match ready(chart, set) {
-        Stage::Refused(place) => Way::Refused(place),
-        Stage::Passed => way_from(chart, set, out),
+    match ready(chart, set, mark) {
+        Stage::Refused(place) => {
+            return Way::Refused(place);
+        }
+        Stage::Passed => {}
     }
+    if mark == 1 {
+        return Way::NoWay;
+    }
+    way_from(chart, set, out)
 }

@@ -11,6 +11,7 @@ use Rattle.report.specs.declared.Labelled.the-variants as labelled
 use Rattle.report.specs.declared.Stage.the-variants as stage
 use Rattle.report.specs.declared.Verdict.the-variants.{Accepted}
 use Rattle.bits.specs.Bits.{Bytes}
+use Rattle.bits.proofs.SetBytes.{taken-bytes}
 use Rattle.chart.specs.Bodies as chart
 use Rattle.chart.specs.Checks as checks
 use Rattle.chart.proofs.Checks as checks′
@@ -38,12 +39,6 @@ same-chart : (s b relation : List ℕ)
 same-chart s b relation = ((λ h. rw (body-start s, body-transitions s) at h), (λ h. rw (body-start s, body-transitions s) h))
 
 -- a part of a list of bytes is one
-taken-bytes : (n : ℕ) (l : List ℕ) → Bytes l → Bytes (take n l)
-taken-bytes zero l h i = omega arith
-taken-bytes (suc n) [] h i = omega arith
-taken-bytes (suc n) (x ∷ l) h zero = h 0
-taken-bytes (suc n) (x ∷ l) h (suc i) = taken-bytes n l (λ j. h (suc j)) i
-
 pub part-bytes : (f : List ℕ) (k : ℕ) → Bytes f → Bytes (bodyAt f k)
 unfolding bodyAt
 part-bytes f k bytes = taken-bytes (twoAt f (offsetOf f k)) (drop (offsetOf f k + 4) f) (λ i. rw getD-drop (bytes (offsetOf f k + 4 + i)))

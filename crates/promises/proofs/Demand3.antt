@@ -1,6 +1,7 @@
 -- Demand 3, proved.
 use mathlib.Core.Path.{_≡_, refl, sym, ap, _∙_}
 use mathlib.Core.Logic.{_≢_, inl, ⊎-elim, _↔_, Iff·symm, Iff·trans, Dec·of-iff, by-cases}
+use mathlib.Core.Bool.{Bool, false}
 use mathlib.Core.List.{List, [], _∷_, map, map-map, map-congr-left}
 use Prim.Native.Nat.{ℕ, zero, suc, _-_, _<_}
 use native.Mathlib.Decide.{ℕ-discrete}
@@ -16,7 +17,7 @@ use Rattle.theory.specs.Nodes.{Means}
 use Rattle.theory.specs.Rules.{rules}
 use Rattle.theory.specs.Followers.{Answers}
 use Rattle.theory.specs.Events as events
-use Rattle.theory.specs.Runs.{runFresh, ruleMachine}
+use Rattle.theory.specs.Runs.{run, runLeaves, runFresh, keptFresh, ruleMachine}
 use Rattle.theory.proofs.Checks.{passed-iff-witness}
 use Rattle.theory.proofs.Removals.{plain-done}
 use Rattle.theory.proofs.RemovalTests.{all-decided, left-decided, plain-call, plain-answers}
@@ -27,7 +28,7 @@ use Rattle.theory.proofs.Runs.{chart-answers, rules-answers}
 use Rattle.report.specs.declared.Followed.{Followed}
 use Rattle.report.specs.declared.Removed.{Removed}
 use Rattle.report.specs.declared.Removed.the-variants.{Done}
-use Rattle.report.specs.Numbers.{removedNumbers, followedNumbers}
+use Rattle.report.specs.Numbers.{flag, removedNumbers, followedNumbers}
 use Rattle.report.specs.declared.Stage.the-variants as stage
 use Rattle.report.specs.declared.Verdict.the-variants.{Accepted}
 use Rattle.bits.specs.Bits.{Bytes}
@@ -47,9 +48,10 @@ use Rattle.bisimulation.specs.Answers.{Related}
 use Rattle.bisimulation.proofs.Relations.{relation-iff-bisimulation}
 use Rattle.elimination.specs.Removals.{removedAs}
 use Rattle.elimination.proofs.Lists.{Passing, formed, listed, call-answers, call-stands, calls-agree}
-use Rattle.follower.specs.States.{noState}
+use Rattle.follower.specs.declared.Follower.{Follower}
+use Rattle.follower.specs.States.{stateSize, stateIn, noState}
 use Rattle.follower.specs.Calls.{followedAs, calledOn, lentOn}
-use Rattle.follower.specs.Lists.{ByRule}
+use Rattle.follower.specs.Lists.{byValue, inPlace, ByRule}
 use Rattle.follower.proofs.Calls.{fresh-called}
 use Rattle.follower.proofs.Lists.{by-value-follows, in-place-follows, lent-follows, fresh-held}
 use Rattle.verdict.specs.Verdicts.{nodesIn, chartIn, labelsIn, relationIn, verdictOf}
@@ -91,6 +93,7 @@ plain-numbers (refused-52 v l r) = refl
 rule-numbers : (x : events.Answer) → followedNumbers (followedAs x) ≡ ruleNumbers x
 rule-numbers (events.answer events.taken end offered) = refl
 rule-numbers (events.answer events.not-possible end offered) = refl
+rule-numbers events.spoilt = refl
 rule-numbers events.refused-53 = refl
 
 all-numbers : {X Y K : Type 0} (f : Y → K) (g : X → Y) (h : X → K) → ((x : X) → f (g x) ≡ h x) → {ys : List Y} (xs : List X)
@@ -154,17 +157,37 @@ module _ {b labels : List ℕ} (c : Passing b labels) where
       }
 
 -- THE FOLLOWER OVER A BODY THAT PASSES, where the rule has but one list of answers over its chart
-gives : {b : List ℕ} {cs : List events.Call} {xs : List events.Answer} → chart.WellFormed b
-    → ((zs : List events.Answer) → Answers events.eventRule (systemOf b) tt cs zs → zs ≡ xs)
-    → FollowerGives b cs (map ruleNumbers xs)
-gives {b} {cs} {xs} W one = record {
-  by-value = told (by-value-follows W (calledOn b noState events.restart .follower) (fresh-called W noState) cs);
-  in-place = λ f. told (in-place-follows W (calledOn b f events.restart .follower) (fresh-called W f) cs);
-  lent = λ s h. let (held, F) = fresh-held W s h in told (lent-follows W (lentOn b s events.restart .1) held F cs);
+pub gives : {b : List ℕ} {cs : List events.Call} {xs : List events.Answer} {spoilt : Bool} → chart.WellFormed b
+    → ((zs : List events.Answer) (mark : Bool) → Answers events.eventRule (systemOf b) false cs zs mark → (zs ≡ xs) × (mark ≡ spoilt))
+    → FollowerGives b cs (map ruleNumbers xs) spoilt
+gives {b} {cs} {xs} {spoilt} W one = record {
+  by-value = told by-value;
+  by-value-mark = marked by-value;
+  in-place = λ f. told (in-place f);
+  in-place-mark = λ f. marked (in-place f);
+  lent = λ s h. told (lent s h);
+  lent-mark = λ s h. marked (lent s h);
 }
   where
-    told : {ys : List Followed} → ByRule b cs ys → map followedNumbers ys ≡ map ruleNumbers xs
-    told R = all-numbers followedNumbers followedAs ruleNumbers rule-numbers (R .answers) (R .written) ∙ ap (map ruleNumbers) (one (R .answers) (R .rule))
+    told : {ys : List Followed} {g : Follower} → ByRule b cs ys g → map followedNumbers ys ≡ map ruleNumbers xs
+    told R =
+        all-numbers followedNumbers followedAs ruleNumbers rule-numbers (R .answers) (R .written)
+        ∙ ap (map ruleNumbers) (one (R .answers) (R .spoilt) (R .rule) .0)
+
+    marked : {ys : List Followed} {g : Follower} → ByRule b cs ys g → g .mark ≡ flag spoilt
+    marked R = R .marked ∙ ap flag (one (R .answers) (R .spoilt) (R .rule) .1)
+
+    by-value : ByRule b cs (run (byValue b) cs (calledOn b noState events.restart .follower))
+        (runLeaves (byValue b) cs (calledOn b noState events.restart .follower))
+    by-value = by-value-follows W (calledOn b noState events.restart .follower) (fresh-called W noState) cs
+
+    in-place : (f : Follower) → ByRule b cs (run (inPlace b) cs (calledOn b f events.restart .follower))
+        (runLeaves (inPlace b) cs (calledOn b f events.restart .follower))
+    in-place f = in-place-follows W (calledOn b f events.restart .follower) (fresh-called W f) cs
+
+    lent : (s : List ℕ) → length s ≡ stateSize → ByRule b cs (run (lentOn b) cs (lentOn b s events.restart .1))
+        (stateIn (runLeaves (lentOn b) cs (lentOn b s events.restart .1)))
+    lent s h = let (held, F) = fresh-held W s h in lent-follows W (lentOn b s events.restart .1) held F cs
 
 -- OF ANY ACCEPTED FILE
 module _ (f : List ℕ) (bytes : Bytes f) {v t l : ℕ} (accepted : verdictOf f ≡ Accepted v t l) where
@@ -216,23 +239,33 @@ module _ (f : List ℕ) (bytes : Bytes f) {v t l : ℕ} (accepted : verdictOf f 
   pub followers-answer : (calls : List events.Call) → OneList (chartIn f) (expressionIn f) (rootIn f) calls
   followers-answer cs = record {
     answers = xs;
+    spoilt = spoilt;
     rules-give = given;
-    no-others = λ zs a. one-answers events.eventRule (rules (rootIn f)) a given;
+    no-others = λ zs mark a. one-answers events.eventRule (rules (rootIn f)) a given;
     panel-gives = gives (passing .body)
-        (λ zs a. sym (fresh-agree charts-match events.eventRule written a) ∙ fresh-agree rules-match events.eventRule written given);
+        (λ zs mark a.
+        let (e, k) = fresh-agree charts-match events.eventRule written a in
+        let (g, m) = fresh-agree rules-match events.eventRule written given in
+        (sym e ∙ g, sym k ∙ m));
     expression-gives = gives (well-formed (expressionIn f) (body-passes (nodesIn f) (part-bytes f 0 bytes) nodes-pass))
-        (λ zs a. fresh-agree rules-match events.eventRule a given);
+        (λ zs mark a. fresh-agree rules-match events.eventRule a given);
     rules-run = refl;
+    rules-mark = refl;
   }
     where
       xs : List events.Answer
-      xs = runFresh events.eventRule (ruleMachine (rootIn f)) tt cs
+      xs = runFresh events.eventRule (ruleMachine (rootIn f)) false cs
 
-      given : Answers events.eventRule (rules (rootIn f)) tt cs xs
-      given = rules-answers (rootIn f) events.eventRule tt cs
+      spoilt : Bool
+      spoilt = keptFresh events.eventRule (ruleMachine (rootIn f)) false cs
 
-      written : Answers events.eventRule (systemOf (expressionIn f)) tt cs (runFresh events.eventRule (machineOf (expressionIn f)) tt cs)
-      written = chart-answers _ _ events.eventRule tt cs
+      given : Answers events.eventRule (rules (rootIn f)) false cs xs spoilt
+      given = rules-answers (rootIn f) events.eventRule false cs
+
+      written : Answers events.eventRule (systemOf (expressionIn f)) false cs
+          (runFresh events.eventRule (machineOf (expressionIn f)) false cs)
+          (keptFresh events.eventRule (machineOf (expressionIn f)) false cs)
+      written = chart-answers _ _ events.eventRule false cs
 
   -- DEMAND 3
   pub demand-3 : Demand3 f

@@ -9,6 +9,7 @@ pub mod ShortestWay
 pub mod LoopsTogether
 pub mod TextRelations
 pub mod Extraction
+pub mod Spoiling
 pub mod VertexTransitions
 pub mod Accepted
 pub mod Demand2

@@ -12,6 +12,7 @@ use Rattle.promises.proofs.VertexTransitions.{handed-back}
 use Rattle.promises.proofs.ShortestWay.{way-numbers, of-shortest-ways}
 use Rattle.promises.proofs.LoopsTogether.{together-numbers, in-every-order, empty-done, over-accepted}
 use Rattle.promises.proofs.Extraction.{extraction-numbers, of-start-texts, of-written, gives-G}
+use Rattle.promises.proofs.Spoiling.{of-an-event, spoilt-until-restart}
 use Rattle.promises.proofs.Demand2.{writes-the-chart, labelling-passes, relation-passes}
 use Rattle.promises.proofs.Demand3.{demand-3}
 
@@ -40,4 +41,6 @@ promises = record {
   start-texts = of-start-texts;
   written-tables = of-written;
   gives-G = gives-G;
+  an-event = of-an-event;
+  spoilt-until-restart = spoilt-until-restart;
 }

@@ -1,4 +1,4 @@
--- The shortest way (document 02, C-11), by the numbers, proved.
+-- The shortest way (document 02, C-11 and C-15), by the numbers, proved.
 use mathlib.Core.Path.{refl}
 use mathlib.Core.Logic.{inl, inr, by-cases}
 use mathlib.Core.List.{List}
@@ -11,8 +11,8 @@ use Rattle.report.specs.Numbers.{four, wayNumbers}
 use Rattle.bits.specs.Bits.{Bytes}
 use Rattle.chart.specs.Bodies.{verticesOf}
 use Rattle.follower.specs.Ways.{eventsToEnd, shortestList}
-use Rattle.follower.specs.WayAnswers.{StatePasses, written}
-use Rattle.follower.proofs.WayCalls.{list-found, none-found, way-few, way-taken, way-says}
+use Rattle.follower.specs.WayAnswers.{StatePasses, no-way, written}
+use Rattle.follower.proofs.WayCalls.{spoilt-never, list-found, none-found, way-few, way-taken, way-says}
 use Rattle.promises.specs.ShortestWay.{WayByNumbers, OfShortestWays}
 use Rattle.promises.proofs.Numbered.{by-numbers}
 
@@ -27,7 +27,10 @@ of-shortest-ways {b} {s} B D P = record {
   only = one-shortest;
   few = way-few B D P;
   taken = way-taken B D P;
-  at-end = shortest-none;
-  needs-none = λ h out. way-numbers b s out B D (four 0 0 0 0) out .1
-      (record { answer = way.Length 0; meant = written P (shortest-none h) (omega arith); numbered = refl });
+  at-end = λ u h. shortest-none (u, h);
+  needs-none = λ u h out. way-numbers b s out B D (four 0 0 0 0) out .1
+      (record { answer = way.Length 0; meant = written P (shortest-none (u, h)) (omega arith); numbered = refl });
+  spoilt-none = spoilt-never B D P;
+  spoilt-55 = λ u out. way-numbers b s out B D (four 55 0 0 0) out .1
+      (record { answer = way.NoWay; meant = no-way P (spoilt-never B D P u); numbered = refl });
 }

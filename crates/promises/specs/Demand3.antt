@@ -5,11 +5,11 @@
 -- are written out here.
 use mathlib.Core.Path.{_≡_}
 use mathlib.Core.Logic.{_↔_}
-use mathlib.Core.Bool.{cond}
+use mathlib.Core.Bool.{Bool, false, cond}
 use mathlib.Core.List.{List, [], _∷_, map}
 use Prim.Native.Nat.{ℕ, _-_}
 use lib.Dec.{eqb}
-use lib.ListN.{length, replicate}
+use lib.ListN.{length, getD, replicate}
 use Rattle.theory.specs.Paths.{Endless}
 use Rattle.theory.specs.Charts.{Any, Loop}
 use Rattle.theory.specs.Standing.{Loops, Inside}
@@ -20,7 +20,7 @@ use Rattle.theory.specs.Nodes.{expr}
 use Rattle.theory.specs.Rules.{rules}
 use Rattle.theory.specs.Followers.{Answers}
 use Rattle.theory.specs.Events as events
-use Rattle.theory.specs.Runs.{run, runFresh, ruleMachine}
+use Rattle.theory.specs.Runs.{run, runLeaves, runFresh, keptFresh, ruleMachine}
 use Rattle.report.specs.declared.Numbers.{Numbers}
 use Rattle.report.specs.declared.Removed.{Removed}
 use Rattle.report.specs.declared.Removed.the-variants.{Done}
@@ -93,20 +93,25 @@ pub record RunsThrough (b labels : List ℕ) (xs : List Pair) : Type 0 where
 
 -- THE FOLLOWERS. A list of events and restarts begins at a fresh start, which is what a restart hands back or leaves;
 -- each call gets the state that the one before handed back or left. The follower over the chart body b answers with the
--- numbers ks:
-pub record FollowerGives (b : List ℕ) (cs : List events.Call) (ks : List Numbers) : Type 0 where
+-- numbers ks, and the mark of the state after the list says whether it is spoilt:
+pub record FollowerGives (b : List ℕ) (cs : List events.Call) (ks : List Numbers) (spoilt : Bool) : Type 0 where
   -- by value
   pub by-value : map followedNumbers (run (byValue b) cs (calledOn b noState events.restart .follower)) ≡ ks
+  pub by-value-mark : runLeaves (byValue b) cs (calledOn b noState events.restart .follower) .mark ≡ flag spoilt
   -- in a state that is lent itself, whatever it was before
   pub in-place : (f : Follower) → map followedNumbers (run (inPlace b) cs (calledOn b f events.restart .follower)) ≡ ks
-  -- in as many lent bytes as a state has, whatever they were before
+  pub in-place-mark : (f : Follower) → runLeaves (inPlace b) cs (calledOn b f events.restart .follower) .mark ≡ flag spoilt
+  -- in as many lent bytes as a state has, whatever they were before; the mark is the byte after the set
   pub lent : (s : List ℕ) → length s ≡ stateSize
       → map followedNumbers (run (lentOn b) cs (lentOn b s events.restart .1)) ≡ ks
+  pub lent-mark : (s : List ℕ) → length s ≡ stateSize
+      → getD (runLeaves (lentOn b) cs (lentOn b s events.restart .1)) 16 0 ≡ flag spoilt
 
--- document 01's numbers for each answer of the published rules' follower
+-- the documents' numbers for each answer of the published rules' follower
 abbrev pub ruleNumbers : events.Answer → Numbers
 ruleNumbers (events.answer events.taken end offered) = four 0 1 (flag end) offered
 ruleNumbers (events.answer events.not-possible end offered) = four 0 0 (flag end) offered
+ruleNumbers events.spoilt = four 0 2 0 0
 ruleNumbers events.refused-53 = four 53 0 0 0
 
 -- the root's expression
@@ -116,15 +121,19 @@ rootIn f = expr (nodes.node (nodesIn f)) (nodes.count (nodesIn f) - 1)
 -- "And for every list of events and restarts, those not possible or refused included, from a fresh start, the follower
 -- over the panel's chart and the one over the expression's chart give the same answers, and these are the ones that the
 -- published rules give." The rules' follower has expressions and the end as members, and begins at the expression e
--- alone: its answers exist, and are no others
+-- alone, not spoilt: its answers exist, and are no others. Document 02: "the panel and expression followers must spoil
+-- together": after the list all three are spoilt, or none is
 pub record OneList (panel expression : List ℕ) (e : Expr) (cs : List events.Call) : Type 1 where
   pub answers : List events.Answer
-  pub rules-give : Answers events.eventRule (rules e) tt cs answers
-  pub no-others : (xs : List events.Answer) → Answers events.eventRule (rules e) tt cs xs → xs ≡ answers
-  pub panel-gives : FollowerGives panel cs (map ruleNumbers answers)
-  pub expression-gives : FollowerGives expression cs (map ruleNumbers answers)
+  pub spoilt : Bool
+  pub rules-give : Answers events.eventRule (rules e) false cs answers spoilt
+  pub no-others : (xs : List events.Answer) (mark : Bool) → Answers events.eventRule (rules e) false cs xs mark
+      → (xs ≡ answers) × (mark ≡ spoilt)
+  pub panel-gives : FollowerGives panel cs (map ruleNumbers answers) spoilt
+  pub expression-gives : FollowerGives expression cs (map ruleNumbers answers) spoilt
   -- the rules' follower as it runs
-  pub rules-run : runFresh events.eventRule (ruleMachine e) tt cs ≡ answers
+  pub rules-run : runFresh events.eventRule (ruleMachine e) false cs ≡ answers
+  pub rules-mark : keptFresh events.eventRule (ruleMachine e) false cs ≡ spoilt
 
 -- DEMAND 3, of a file f that is accepted
 pub record Demand3 (f : List ℕ) : Type 1 where

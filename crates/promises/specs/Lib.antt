@@ -10,6 +10,7 @@ pub mod Follower
 pub mod ShortestWay
 pub mod LoopsTogether
 pub mod Extraction
+pub mod Spoiling
 pub mod VertexTransitions
 -- what an accepted file is
 pub mod Accepted

@@ -32,6 +32,7 @@ use Rattle.promises.specs.VertexTransitions.{HandedBack}
 use Rattle.promises.specs.ShortestWay.{WayByNumbers, OfShortestWays}
 use Rattle.promises.specs.LoopsTogether.{TogetherByNumbers, InEveryOrder, EmptyDone, OverAccepted}
 use Rattle.promises.specs.Extraction.{ExtractionGives, ExtractionByNumbers, OfStartTexts, OfWritten, GivesG}
+use Rattle.promises.specs.Spoiling.{OfAnEvent, SpoiltUntilRestart}
 use Rattle.promises.specs.Demand2.{WritesTheChart, LabellingPasses, RelationPasses}
 use Rattle.promises.specs.Demand3.{Demand3}
 
@@ -82,3 +83,7 @@ pub record Promises : Type 1 where
   pub written-tables : (b labels out : List ℕ) → Bytes labels → (n : ℕ) (t : List ℕ)
       → ExtractionGives b labels out (four 0 n 0 0) t → OfWritten b labels (take n t)
   pub gives-G : GivesG
+  -- C-15, a wrong button spoils the run: an event by the numbers, with every byte after it; and "spoilt" exactly at the events
+  -- after one that is not possible since the last restart. The other answers, and who spoils together, are above
+  pub an-event : (b s : List ℕ) → Bytes s → StatePasses b s → (a : ℕ) → OfAnEvent b s a
+  pub spoilt-until-restart : (b : List ℕ) → WellFormed b → (cs : List Call) → SpoiltUntilRestart b cs

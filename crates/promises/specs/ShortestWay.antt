@@ -1,4 +1,4 @@
--- The shortest way (document 02, C-11), by the numbers; and what holds of the list. What each answer says, with the lent bytes
+-- The shortest way (document 02, C-11 and C-15), by the numbers; and what holds of the list. What each answer says, with the lent bytes
 -- after it, is `WayAnswer`.
 use mathlib.Core.Path.{_≡_}
 use mathlib.Core.Logic.{_⊎_}
@@ -8,7 +8,7 @@ use lib.ListN.{length}
 use Rattle.report.specs.declared.Numbers.{Numbers}
 use Rattle.report.specs.Numbers.{four, wayNumbers}
 use Rattle.chart.specs.Bodies.{verticesOf}
-use Rattle.follower.specs.States.{stateIn, InState}
+use Rattle.follower.specs.States.{stateIn, InState, Unspoilt, IsSpoilt}
 use Rattle.follower.specs.Ways.{wayOf, wayLeft}
 use Rattle.follower.specs.WayAnswers.{eventAnswers, ShortestWay, OnlyTaken, NoEnd, StatePasses, WayAnswer}
 use Rattle.promises.specs.Numbered.{Gives, ByNumbers}
@@ -28,6 +28,9 @@ pub record OfShortestWays (b s : List ℕ) : Type 0 where
   -- it has at most V − 1 events, and all of them are taken
   pub few : {xs : List ℕ} → ShortestWay b s xs → length xs < verticesOf b
   pub taken : {xs : List ℕ} → ShortestWay b s xs → OnlyTaken (eventAnswers b s xs)
-  -- where the state holds the end it has none, and needs no byte
-  pub at-end : InState (stateIn s) 0 → ShortestWay b s []
-  pub needs-none : InState (stateIn s) 0 → (out : List ℕ) → WayGives b s out (four 0 0 0 0) out
+  -- where the state holds the end and is not spoilt it has none, and needs no byte
+  pub at-end : Unspoilt (stateIn s) → InState (stateIn s) 0 → ShortestWay b s []
+  pub needs-none : Unspoilt (stateIn s) → InState (stateIn s) 0 → (out : List ℕ) → WayGives b s out (four 0 0 0 0) out
+  -- a spoilt state reaches nothing, whatever its set holds: 55
+  pub spoilt-none : IsSpoilt (stateIn s) → NoEnd b s
+  pub spoilt-55 : IsSpoilt (stateIn s) → (out : List ℕ) → WayGives b s out (four 55 0 0 0) out

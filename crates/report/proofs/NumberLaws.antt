@@ -200,19 +200,22 @@ unfolding togetherAt
 only-57 x e = sym (together-at x) ∙ rw e
 
 -- and no two answers of a follower
-flag-back : (b : Bool) → eqb (flag b) 1 ≡ b
+pub flag-back : (b : Bool) → eqb (flag b) 1 ≡ b
 flag-back true = refl
 flag-back false = refl
 
 followedAt : Numbers → Followed
 followedAt k =
-    cond (eqb (k .n) 0) (cond (eqb (k .p) 1) (followed.Taken (eqb (k .q) 1) (k .r)) (followed.NotPossible (eqb (k .q) 1) (k .r)))
+    cond (eqb (k .n) 0)
+    (cond (eqb (k .p) 1) (followed.Taken (eqb (k .q) 1) (k .r))
+    (cond (eqb (k .p) 2) followed.Spoilt (followed.NotPossible (eqb (k .q) 1) (k .r))))
     (followed.Refused (placeAt k))
 
 followed-at : (x : Followed) → followedAt (followedNumbers x) ≡ x
 unfolding followedAt placed
 followed-at (followed.Taken end offered) = ap (λ b. followed.Taken b offered) (flag-back end)
 followed-at (followed.NotPossible end offered) = ap (λ b. followed.NotPossible b offered) (flag-back end)
+followed-at followed.Spoilt = refl
 followed-at (followed.Refused place) =
     rw (ne-eqb (placeNumbers place .n) 0 (λ e. omega (arith, e, numbered place))) (ap followed.Refused (place-at place))
 

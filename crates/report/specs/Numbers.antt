@@ -75,11 +75,12 @@ togetherNumbers (together.StartInside p) = four 57 p 0 0
 abbrev pub flag : Bool → ℕ
 flag b = cond b 1 0
 
--- nothing refused: 0, then 1 for taken and 0 for not possible, whether the end is in the set, and how many actions are
--- offered
+-- nothing refused: 0, then 1 for taken, 0 for not possible and 2 for spoilt, whether the end is in the set, and how many
+-- actions are offered; when spoilt no and 0
 abbrev pub followedNumbers : Followed → Numbers
 followedNumbers (followed.Taken end offered) = four 0 1 (flag end) offered
 followedNumbers (followed.NotPossible end offered) = four 0 0 (flag end) offered
+followedNumbers followed.Spoilt = four 0 2 0 0
 followedNumbers (followed.Refused place) = placeNumbers place
 
 -- nothing refused: 0, and the length

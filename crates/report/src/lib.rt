@@ -47,7 +47,7 @@ pub enum Place {
     PairExpressionStep(usize, usize, usize),
     // 45: pair, and a transition of the file's chart that is not matched
     PairChartStep(usize, usize, usize),
-    // 53: the follower's set is empty or has a vertex of V or above, or its state has not 16 bytes
+    // 53: the follower's set is empty or has a vertex of V or above, its mark is not 0 or 1, or its state has not 17 bytes
     FollowerSet,
     // 54: lent output too short; the bytes needed
     OutputLength(usize),
@@ -101,10 +101,11 @@ pub enum Together {
 }
 
 // What an event or a restart answers: its word with whether the end is in the set and how many different actions the
-// set's vertices offer, or a refusal.
+// set's vertices offer, or a refusal. "Spoilt" has no and 0 there.
 pub enum Followed {
     Taken(bool, usize),
     NotPossible(bool, usize),
+    Spoilt,
     // 20, 21: of the chart; 53: of the state
     Refused(Place),
 }
@@ -236,6 +237,7 @@ pub fn followed_numbers(followed: Followed) -> Numbers
     match followed {
         Followed::Taken(end, offered) => four_numbers(0, 1, flag_number(end), offered),
         Followed::NotPossible(end, offered) => four_numbers(0, 0, flag_number(end), offered),
+        Followed::Spoilt => four_numbers(0, 2, 0, 0),
         Followed::Refused(place) => place_numbers(place),
     }
 }

@@ -85,7 +85,7 @@ pub extern "C" fn seq_remove_together(
     together_numbers(elimination::remove_together(chart, labels, loops, standing))
 }
 
-// A restart over a chart, of a state of sixteen bytes: 0 with 1 for taken, whether the end is in the
+// A restart over a chart, of a state of seventeen bytes: 0 with 1 for taken, whether the end is in the
 // set and how many actions are offered, or the refusal, which changes no byte of the state.
 #[no_mangle]
 pub extern "C" fn seq_restart(chart: &[u8], state: &mut [u8]) -> Numbers
@@ -95,7 +95,7 @@ pub extern "C" fn seq_restart(chart: &[u8], state: &mut [u8]) -> Numbers
     followed_numbers(follower::restart_lent(chart, state))
 }
 
-// An event likewise: 1 for taken, 0 for not possible.
+// An event likewise: 1 for taken, 0 for not possible, which spoils the state, 2 for spoilt.
 #[no_mangle]
 pub extern "C" fn seq_event(chart: &[u8], state: &mut [u8], action: u8) -> Numbers
     ensures { λ r. ⌜ (r ≡ followedNumbers (lentOn (now (chart .entry)) (now (state .entry)) (event action) .0))

@@ -20,7 +20,7 @@ use Rattle.expression.specs.Body.{fourOf, flat, chartTransitions, bodyOf, writt
 use Rattle.witness.specs.Labellings as labelling
 use Rattle.bisimulation.specs.Relations as relation
 use Rattle.elimination.specs.Removals.{standingTest, standsTest, ruledOf, removalOf, clearedFrom, leftOf}
-use Rattle.follower.specs.Calls.{setTest, answerOf, stateAfter, calledOn, lentOn}
+use Rattle.follower.specs.Calls.{stateTest, answerOf, stateAfter, calledOn, lentOn}
 use Rattle.verdict.specs.Files.{recordStage, recordsFrom, recordsOf, offsetOf, bodyAt}
 use Rattle.verdict.specs.Verdicts.{verdictOf}
 use Rattle.starred.specs.Cases.{nodesG, nodesTwice, nodesSum, chartG, labelsG, fileG, nested, nestedLabels, writtenG, writtenSum, callsG, answersG, cases, allHold}
@@ -32,5 +32,5 @@ unfolding cases nodesG nodesTwice nodesSum chartG labelsG fileG nested nestedLab
     failingPair pairOutcome unmatchedTest matchedTest
     labelling.labelledOf labelling.labellingOutcome labelling.loopsOf labelling.stepTest outcome loopsOutcome
     failingTest loopOutcome notLowerTest cycleTest unreachedTest bodyTest loopList loopTest anyTest reaches rounds
-    values tests.someBelow tests.lowest tests.firstRow tests.rowPairs tests.pairsFrom tests.pairs chart.checkOf chart.headerOk chart.fitsAt chart.aboveAt chart.okAt chart.firstBad chart._and_ writtenOf bufferOf bodyOf chartTransitions flat fourOf nodes.checkOf nodes.misused nodes.malformed nodes.lowestFailing nodes.count nodes.node transitions collect edges after rise riseF uses up first down downF precedes sort insert leftOf clearedFrom removalOf ruledOf standsTest standingTest ruleAnswer strayTest aroundTest lentOn calledOn stateAfter answerOf setTest listFrom setBytes bytesFrom bitsOf transitionsOf transitionsFrom pick flatMap tests.someIn expr
+    values tests.someBelow tests.lowest tests.firstRow tests.rowPairs tests.pairsFrom tests.pairs chart.checkOf chart.headerOk chart.fitsAt chart.aboveAt chart.okAt chart.firstBad chart._and_ writtenOf bufferOf bodyOf chartTransitions flat fourOf nodes.checkOf nodes.misused nodes.malformed nodes.lowestFailing nodes.count nodes.node transitions collect edges after rise riseF uses up first down downF precedes sort insert leftOf clearedFrom removalOf ruledOf standsTest standingTest ruleAnswer strayTest aroundTest lentOn calledOn stateAfter answerOf stateTest listFrom setBytes bytesFrom bitsOf transitionsOf transitionsFrom pick flatMap tests.someIn expr
 all-hold = refl

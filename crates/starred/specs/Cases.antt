@@ -14,6 +14,7 @@ use Rattle.expression.specs.Table.{node, count}
 use Rattle.expression.specs.Body.{writtenOf, bufferOf}
 use Rattle.witness.specs.Labellings.{labelledOf}
 use Rattle.elimination.specs.Removals.{removalOf, leftOf}
+use Rattle.follower.specs.States.{bytesIn, stateIn}
 use Rattle.follower.specs.Calls.{followedAs, lentOn}
 use Rattle.follower.specs.Lists.{byValue, inPlace}
 use Rattle.verdict.specs.Verdicts.{onLoops, accepted, verdictOf}
@@ -65,16 +66,16 @@ holds (removes body labelling v level standing answer left) =
     sameNumbers (removedNumbers (removalOf body labelling v level standing)) answer
     && sameBytes (leftOf body labelling v level standing) left
 holds (follows body state calls answers left) =
-    sameAnswers (map followedNumbers (run (byValue body) calls (record { set = state }))) answers
-    && sameBytes (runLeaves (byValue body) calls (record { set = state }) .set) left
+    sameAnswers (map followedNumbers (run (byValue body) calls (stateIn state))) answers
+    && sameBytes (bytesIn (runLeaves (byValue body) calls (stateIn state))) left
 holds (follows-in-place body state calls answers left) =
-    sameAnswers (map followedNumbers (run (inPlace body) calls (record { set = state }))) answers
-    && sameBytes (runLeaves (inPlace body) calls (record { set = state }) .set) left
+    sameAnswers (map followedNumbers (run (inPlace body) calls (stateIn state))) answers
+    && sameBytes (bytesIn (runLeaves (inPlace body) calls (stateIn state))) left
 holds (follows-lent body state calls answers left) =
     sameAnswers (map followedNumbers (run (lentOn body) calls state)) answers
     && sameBytes (runLeaves (lentOn body) calls state) left
 holds (rules-follow nodes calls answers) =
-    sameAnswers (map (λ x. followedNumbers (followedAs x)) (runFresh eventRule (ruleMachine (rootOf nodes)) tt calls))
+    sameAnswers (map (λ x. followedNumbers (followedAs x)) (runFresh eventRule (ruleMachine (rootOf nodes)) false calls))
     answers
 
 abbrev pub allHold : List Case → Bool
@@ -108,9 +109,12 @@ chartG =
     ∷ 0x01 ∷ 0x01 ∷ 0x01 ∷ 0x00
     ∷ 0x01 ∷ 0x02 ∷ 0x00 ∷ 0x00 ∷ []
 
--- a row of a relation, or a state, whose first byte is given
+-- a row of a relation whose first byte is given; a follower's state with such a set, and its mark
 abbrev pub relationRow : ℕ → List ℕ
 relationRow b = b ∷ replicate 15 0x00
+
+abbrev pub stateOf : ℕ → ℕ → List ℕ
+stateOf b mark = relationRow b ++ mark ∷ []
 
 -- G with these nodes, labels and first and last rows of its relation
 unfoldable pub fileG : List ℕ → List ℕ → ℕ → ℕ → List ℕ
@@ -206,26 +210,34 @@ cases =
     -- a standing byte that is neither 0 nor 1; one too few
     ∷ removes nested nestedLabels 2 1 (standing 1 1 1 2) (four 50 0 0 0) (standing 1 1 1 2)
     ∷ removes nested nestedLabels 2 1 (1 ∷ 1 ∷ 1 ∷ []) (four 50 0 0 0) (1 ∷ 1 ∷ 1 ∷ [])
-    -- restart, 1, 2, 1 over G's chart, over its expression chart and by the rules; the end alone is left
-    ∷ follows chartG (relationRow 0x00) callsG answersG (relationRow 0x01)
-    ∷ follows-in-place chartG (relationRow 0x00) callsG answersG (relationRow 0x01)
-    ∷ follows-lent chartG (replicate 16 0xAA) callsG answersG (relationRow 0x01)
-    ∷ follows writtenG (relationRow 0x00) callsG answersG (relationRow 0x01)
-    ∷ follows-in-place writtenG (relationRow 0x00) callsG answersG (relationRow 0x01)
-    ∷ follows-lent writtenG (replicate 16 0xAA) callsG answersG (relationRow 0x01)
+    -- restart, 1, 2, 1 over G's chart, over its expression chart and by the rules; the end alone is left, spoilt
+    ∷ follows chartG (stateOf 0x00 0x00) callsG answersG (stateOf 0x01 0x01)
+    ∷ follows-in-place chartG (stateOf 0x00 0x00) callsG answersG (stateOf 0x01 0x01)
+    ∷ follows-lent chartG (replicate 17 0xAA) callsG answersG (stateOf 0x01 0x01)
+    ∷ follows writtenG (stateOf 0x00 0x00) callsG answersG (stateOf 0x01 0x01)
+    ∷ follows-in-place writtenG (stateOf 0x00 0x00) callsG answersG (stateOf 0x01 0x01)
+    ∷ follows-lent writtenG (replicate 17 0xAA) callsG answersG (stateOf 0x01 0x01)
     ∷ rules-follow nodesG callsG answersG
+    -- and then it is spoilt until a restart
+    ∷ follows chartG (stateOf 0x01 0x01) (event 1 ∷ restart ∷ []) (four 0 2 0 0 ∷ four 0 1 0 2 ∷ []) (stateOf 0x02 0x00)
+    ∷ follows-lent writtenG (stateOf 0x01 0x01) (event 1 ∷ event 2 ∷ []) (four 0 2 0 0 ∷ four 0 2 0 0 ∷ []) (stateOf 0x01 0x01)
+    ∷ rules-follow nodesG (event 2 ∷ event 1 ∷ event 1 ∷ restart ∷ [])
+    (four 0 1 1 0 ∷ four 0 0 1 0 ∷ four 0 2 0 0 ∷ four 0 1 0 2 ∷ [])
     -- the empty set, and one with the vertex V: an event is refused 53 and leaves them, a restart is taken
-    ∷ follows chartG (relationRow 0x00) (event 1 ∷ restart ∷ []) (four 53 0 0 0 ∷ four 0 1 0 2 ∷ []) (relationRow 0x02)
-    ∷ follows chartG (relationRow 0x06) (event 1 ∷ []) (four 53 0 0 0 ∷ []) (relationRow 0x06)
-    ∷ follows-lent chartG (relationRow 0x06) (event 1 ∷ []) (four 53 0 0 0 ∷ []) (relationRow 0x06)
-    -- fifteen lent bytes are refused 53, by a restart too
-    ∷ follows-lent chartG (replicate 15 0x00) (restart ∷ event 1 ∷ []) (four 53 0 0 0 ∷ four 53 0 0 0 ∷ [])
-    (replicate 15 0x00)
+    ∷ follows chartG (stateOf 0x00 0x01) (event 1 ∷ restart ∷ []) (four 53 0 0 0 ∷ four 0 1 0 2 ∷ []) (stateOf 0x02 0x00)
+    ∷ follows chartG (stateOf 0x06 0x00) (event 1 ∷ []) (four 53 0 0 0 ∷ []) (stateOf 0x06 0x00)
+    ∷ follows-lent chartG (stateOf 0x06 0x01) (event 1 ∷ []) (four 53 0 0 0 ∷ []) (stateOf 0x06 0x01)
+    -- a mark of 2: the same
+    ∷ follows-lent chartG (stateOf 0x02 0x02) (event 1 ∷ []) (four 53 0 0 0 ∷ []) (stateOf 0x02 0x02)
+    ∷ follows-lent chartG (stateOf 0x02 0x02) (restart ∷ event 1 ∷ []) (four 0 1 0 2 ∷ four 0 1 0 2 ∷ []) (stateOf 0x02 0x00)
+    -- sixteen lent bytes are refused 53, by a restart too
+    ∷ follows-lent chartG (relationRow 0x02) (restart ∷ event 1 ∷ []) (four 53 0 0 0 ∷ four 53 0 0 0 ∷ []) (relationRow 0x02)
     -- event 0 is not possible
-    ∷ follows chartG (relationRow 0x02) (event 0 ∷ []) (four 0 0 0 2 ∷ []) (relationRow 0x02)
-    -- no chart: a refused restart hands back the empty set by value, and leaves lent bytes as they are
-    ∷ follows [] (relationRow 0x02) (event 1 ∷ restart ∷ []) (four 20 0 0 0 ∷ four 20 0 0 0 ∷ []) (relationRow 0x00)
-    ∷ follows-lent [] (relationRow 0x02) (restart ∷ []) (four 20 0 0 0 ∷ []) (relationRow 0x02)
+    ∷ follows chartG (stateOf 0x02 0x00) (event 0 ∷ []) (four 0 0 0 2 ∷ []) (stateOf 0x02 0x01)
+    -- no chart: a refused restart hands back the empty set by value, not spoilt, and leaves lent bytes as they are
+    ∷ follows [] (stateOf 0x02 0x01) (event 1 ∷ []) (four 20 0 0 0 ∷ []) (stateOf 0x02 0x01)
+    ∷ follows [] (stateOf 0x02 0x01) (event 1 ∷ restart ∷ []) (four 20 0 0 0 ∷ four 20 0 0 0 ∷ []) (stateOf 0x00 0x00)
+    ∷ follows-lent [] (stateOf 0x02 0x01) (restart ∷ []) (four 20 0 0 0 ∷ []) (stateOf 0x02 0x01)
     -- a + a offers one action
     ∷ rules-follow nodesSum (restart ∷ event 7 ∷ []) (four 0 1 0 1 ∷ four 0 1 1 0 ∷ [])
     ∷ []

@@ -93,9 +93,9 @@ module _ {M N : System} {R : M .State → N .State → Type 0} (b : Bisimulation
         (ap₂ _∷_ x xs, k′, m′)
 
     -- from a fresh start
-    pub fresh-agree : {k : rule .Kept} {cs : List (rule .Call)} {xs ys : List (rule .Answer)}
-        → Answers rule M k cs xs → Answers rule N k cs ys → xs ≡ ys
-    fresh-agree f g = followers-agree lift-fresh (f .follows) (g .follows) .0
+    pub fresh-agree : {k l m : rule .Kept} {cs : List (rule .Call)} {xs ys : List (rule .Answer)}
+        → Answers rule M k cs xs l → Answers rule N k cs ys m → (xs ≡ ys) × (l ≡ m)
+    fresh-agree f g = let (e, k, m) = followers-agree lift-fresh (f .follows) (g .follows) in (e, k)
 
     -- ANSWERS ARE CARRIED OVER: where the one follower has them, so has the other
     pub responds-carried : {P P′ : StateSet M} {Q : StateSet N} {k l : rule .Kept} {c : rule .Call} {x : rule .Answer}
@@ -125,11 +125,11 @@ module _ {M N : System} {R : M .State → N .State → Type 0} (b : Bisimulation
         let (Q″, g, m″) = follows-carried m′ f in
         (Q″, call s g, m″)
 
-    pub fresh-carried : {k : rule .Kept} {cs : List (rule .Call)} {xs : List (rule .Answer)}
-        → Answers rule M k cs xs → Answers rule N k cs xs
+    pub fresh-carried : {k l : rule .Kept} {cs : List (rule .Call)} {xs : List (rule .Answer)}
+        → Answers rule M k cs xs l → Answers rule N k cs xs l
     fresh-carried f =
         let (Q, g, m) = follows-carried lift-fresh (f .follows) in
-        record { members = Q; kept = f .kept; follows = g }
+        record { members = Q; follows = g }
 
 module _ (rule : FollowerRule) (M : System) where
   -- ANSWERS ARE DETERMINED, and the members count only by which states they are
@@ -151,16 +151,16 @@ module _ (rule : FollowerRule) (M : System) where
     kept = r .kept;
   }
 
-  pub one-answers : {k : rule .Kept} {cs : List (rule .Call)} {xs ys : List (rule .Answer)}
-      → Answers rule M k cs xs → Answers rule M k cs ys → xs ≡ ys
+  pub one-answers : {k l m : rule .Kept} {cs : List (rule .Call)} {xs ys : List (rule .Answer)}
+      → Answers rule M k cs xs l → Answers rule M k cs ys m → (xs ≡ ys) × (l ≡ m)
   one-answers = fresh-agree (identity M) rule
 
   -- whatever has the start alone is a fresh start
   pub from-fresh : {P Q : StateSet M} {k l : rule .Kept} {cs : List (rule .Call)} {xs : List (rule .Answer)}
-      → SameMembers M P (Fresh M) → Follows rule M P k cs xs Q l → Answers rule M k cs xs
-  from-fresh {l} s f =
+      → SameMembers M P (Fresh M) → Follows rule M P k cs xs Q l → Answers rule M k cs xs l
+  from-fresh s f =
       let (Q, g, m) = follows-carried (identity M) rule (lift-equal s) f in
-      record { members = Q; kept = l; follows = g }
+      record { members = Q; follows = g }
 
   -- WHERE MEMBERS ARE: no call leads out of a set that has the start and that no step leaves
   module _ {C : StateSet M} (closed : Closed M C) where

@@ -78,17 +78,20 @@ pub mod Systems
 -- the one has answers so has the other, follows-carried and fresh-carried. What a set shows and the answers are determined:
 -- one-view, follows-one, one-answers. Members stay within a set that no step leaves, follows-within; there is one, follows-some
 pub mod Followers
--- document 01's rule, sentence by sentence: restart-taken, event-taken, event-not-possible, event-refused; no 53 from a fresh
--- start, never-refused
+-- the rule, sentence by sentence: restart-taken, event-taken, event-not-possible, event-spoilt, event-refused; no 53 from a
+-- fresh start, never-refused
 pub mod Events
+-- "spoilt" exactly at the events after one that is not possible since the last restart: answers-exactly; the same of answers
+-- written otherwise, exactly-written
+pub mod Spoiling
 -- followers that run: any function that meets a rule, run-follows; any rule over a machine with lists of moves, machine-follows and
 -- machine-answers; charts and the rules as machines, chart-machine, chart-answers, rules-machine, rules-answers
 pub mod Runs
--- document 01's follower computed of the definitions: loop-follows, loop-chart-follows
+-- the follower computed of the definitions: document 01's case, loop-follows, loop-chart-follows, and on from there, spoilt-run
 pub mod FollowerCases
--- shortest lists of events to the end: by the follower's events exactly where by paths, ends-follow, follow-ends, shortest-path; the
--- same over bisimilar systems, ends-carried; one list, one-shortest; shorter than there are vertices, ends-short, shortest-few; found
--- action by action, lowest-more, and by layers, first-more, first-less
+-- shortest lists of events to the end: by the follower's events exactly where by paths, ends-unspoilt, and then all are taken,
+-- ends-taken; from a spoilt state never, spoilt-stays; the same over bisimilar systems, ends-carried; one list, one-shortest; shorter
+-- than there are vertices, ends-short, shortest-few; found action by action, lowest-more, and by layers, first-more, first-less
 pub mod Ways
 -- the same as tests that run: ends-in-tested, lowest-list, shortest-list
 pub mod WayTests

@@ -13,7 +13,7 @@ use Rattle.theory.specs.Transitions.{Transition, chart}
 use Rattle.theory.specs.Expressions.{Expr, Target, end, to}
 use Rattle.theory.specs.Rules.{Derives, by-rules, rules}
 use Rattle.theory.specs.Followers.{StateSet, SameMembers, Fresh, Some, Offered, Shows, Effect, keep, fresh, empty, go, Becomes, FollowerRule, Responds, Follows, none, call, Answers}
-use Rattle.theory.specs.Runs.{run, runLeaves, Machine, system, MembersOf, movesOf, nonempty, viewOf, pick, leftBy, callOn, runFresh, fromAndMove, chartMachine, targetMoves, isEndTarget, ruleMachine}
+use Rattle.theory.specs.Runs.{run, runLeaves, Machine, system, MembersOf, movesOf, nonempty, viewOf, pick, leftBy, callOn, runFresh, keptFresh, fromAndMove, chartMachine, targetMoves, isEndTarget, ruleMachine}
 use Rattle.theory.proofs.Ascending.{sort-ascends, sort→, sort←, ltb-order}
 use Rattle.theory.proofs.Derivatives.{derivatives-sound, derivatives-complete}
 use Rattle.theory.proofs.Systems.{equal-states}
@@ -150,7 +150,7 @@ module _ (M : Machine) where
 
     -- ANSWERS EXIST to every list, over every system that has a bisimulation with a machine's
     pub machine-answers : {N : System} {R : M .State → N .State → Type 0} → Bisimulation (system M) N R
-        → (k : rule .Kept) (cs : List (rule .Call)) → Answers rule N k cs (runFresh rule M k cs)
+        → (k : rule .Kept) (cs : List (rule .Call)) → Answers rule N k cs (runFresh rule M k cs) (keptFresh rule M k cs)
     machine-answers b k cs = fresh-carried b rule (from-fresh rule (system M) one-member (machine-follows cs (k, M .start ∷ [])))
 
 -- A CHART has the steps and the end of its machine
@@ -166,7 +166,7 @@ chart-machine start ts = equal-states (λ v. decides-eqb v 0) (λ u a w. (to u a
     from u a w h = pick← u (map fromAndMove ts) (a, w) (Memᴰ·map fromAndMove h)
 
 pub chart-answers : (start : ℕ) (ts : List Transition) (rule : FollowerRule) (k : rule .Kept) (cs : List (rule .Call))
-    → Answers rule (chart start ts) k cs (runFresh rule (chartMachine start ts) k cs)
+    → Answers rule (chart start ts) k cs (runFresh rule (chartMachine start ts) k cs) (keptFresh rule (chartMachine start ts) k cs)
 chart-answers start ts rule = machine-answers (chartMachine start ts) rule (chart-machine start ts)
 
 -- THE PUBLISHED RULES have the steps and the end of theirs
@@ -185,5 +185,5 @@ pub rules-machine : (e : Expr) → Bisimulation (system (ruleMachine e)) (rules 
 rules-machine e = equal-states end-tested (λ t a u. (target-moves→ t a u, target-moves←))
 
 pub rules-answers : (e : Expr) (rule : FollowerRule) (k : rule .Kept) (cs : List (rule .Call))
-    → Answers rule (rules e) k cs (runFresh rule (ruleMachine e) k cs)
+    → Answers rule (rules e) k cs (runFresh rule (ruleMachine e) k cs) (keptFresh rule (ruleMachine e) k cs)
 rules-answers e rule = machine-answers (ruleMachine e) rule (rules-machine e)

@@ -2,8 +2,8 @@
 -- than there are vertices; and how distances and the lowest list are found step by step.
 use Prim.Native.Nat.{ℕ, zero, suc, _+_, _≤_, _<_}
 use mathlib.Core.Path.{_≡_, refl, sym, ap, _∙_, subst}
-use mathlib.Core.Logic.{_⊎_, inl, inr, ⊎-elim, _↔_, by-cases}
-use mathlib.Core.Bool.{Bool, true, false}
+use mathlib.Core.Logic.{_⊎_, inl, inr, ⊎-elim, _↔_, Iff·symm, Iff·trans, by-cases}
+use mathlib.Core.Bool.{Bool, true, false, cond, true≢false}
 use mathlib.Core.List.{List, [], _∷_, map, List·Memᴰ·not-nil, List·Memᴰ·cases-cons}
 use native.Mathlib.Decide.{ℕ-discrete, decLt}
 use native.Mathlib.Omega.{arith}
@@ -12,10 +12,11 @@ use lib.ListN.{length}
 use Rattle.theory.specs.Tests.{Decides, someIn}
 use Rattle.theory.specs.Systems.{System, Bisimulation, Lift}
 use Rattle.theory.specs.Transitions.{chartBy}
-use Rattle.theory.specs.Followers.{StateSet, SameMembers, HoldsEnd, Next, Offered, View, Shows, go, Responds, Follows, none, call}
-use Rattle.theory.specs.Events.{event, taken, Answer, answer, told, eventRule}
+use Rattle.theory.specs.Followers.{StateSet, SameMembers, Some, HoldsEnd, Next, Offered, View, Shows, keep, Responds, Follows, none, call}
+use Rattle.theory.specs.Events.{event, taken, Answer, spoilt, refused-53, told, reply, eventRule}
 use Rattle.theory.specs.Ways.{Lower, at-once, later, Shortest, Ends, done, by, EndsFrom, EndsIn, ReachedIn, member, onward, FirstIn, LowestOf, AllTaken}
 use Rattle.theory.proofs.Search.{pigeonhole}
+use Rattle.theory.proofs.Systems.{identity, lift-equal}
 use Rattle.theory.proofs.Tests.{decided, decides-same, decides-listed, is-false}
 
 -- TWO LISTS of one length are the same, or one is lower
@@ -58,29 +59,16 @@ shortest-none p = record {
   none-lower = λ ys l q g. omega (arith, lower-long g);
 }
 
--- and the same by two properties, where one implies the other, and for each list with the other a list with the first is the
--- same or shorter
-module _ {P Q : List ℕ → Type 0} (to : (xs : List ℕ) → Q xs → P xs)
-    (from : (xs : List ℕ) → P xs → (ys : List ℕ) × Q ys × ((ys ≡ xs) ⊎ (length ys < length xs))) where
-  pub shortest-by : (xs : List ℕ) → Shortest P xs ↔ Shortest Q xs
-  shortest-by xs = (
-    λ S. record {
-      holds = let (ys, q, c) = from xs (S .holds) in
-          ⊎-elim (λ e. subst Q e q) (λ l. absurd (S .none-shorter ys l (to ys q))) c;
-      none-shorter = λ ys l q. S .none-shorter ys l (to ys q);
-      none-lower = λ ys l q. S .none-lower ys l (to ys q);
-    },
-    λ S. record {
-      holds = to xs (S .holds);
-      none-shorter = λ ys l p. let (zs, q, c) = from ys p in
-          S .none-shorter zs (⊎-elim (λ e. omega (arith, ap length e)) (λ g. omega (arith, g)) c) q;
-      none-lower = λ ys l p h. let (zs, q, c) = from ys p in
-          ⊎-elim (λ e. S .none-lower ys l (subst Q e q) h) (λ g. S .none-shorter zs (omega (arith, g)) q) c;
-    },
-  )
-
+-- and the same by two properties of the same lists
 pub shortest-same : {P Q : List ℕ → Type 0} → ((xs : List ℕ) → P xs ↔ Q xs) → (xs : List ℕ) → Shortest P xs ↔ Shortest Q xs
-shortest-same e = shortest-by (λ xs q. e xs .1 q) (λ xs p. (xs, e xs .0 p, inl refl))
+shortest-same {P} {Q} e xs = (carry e, carry (λ ys. Iff·symm (e ys)))
+  where
+    carry : {P Q : List ℕ → Type 0} → ((ys : List ℕ) → P ys ↔ Q ys) → Shortest P xs → Shortest Q xs
+    carry e S = record {
+      holds = e xs .0 (S .holds);
+      none-shorter = λ ys l q. S .none-shorter ys l (e ys .1 q);
+      none-lower = λ ys l q. S .none-lower ys l (e ys .1 q);
+    }
 
 -- PATHS over bisimilar systems have the same actions
 module _ {M N : System} {R : M .State → N .State → Type 0} (b : Bisimulation M N R) where
@@ -112,67 +100,54 @@ module _ (M : System) where
       last : {x : M .State} → Ends M x [] → M .End x
       last (done e) = e
 
-  -- THE FOLLOWER'S OWN EVENTS. Does the event lead on?
+  -- THE FOLLOWER'S OWN EVENTS. Spoilt, the state stays so
+  pub spoilt-stays : (xs : List ℕ) {P Q : StateSet M} {rs : List Answer} {l : Bool}
+      → Follows eventRule M P true (map event xs) rs Q l → l ≡ true
+  spoilt-stays [] none = refl
+  spoilt-stays (a ∷ xs) (call r f) = spoilt-stays xs (rw (r .kept ∙ cases (r .before .some)) at f)
+    where
+      cases : (b : Bool) → cond b (reply keep (λ w. spoilt) true) (reply keep (λ w. refused-53) true) .kept (r .after) ≡ true
+      cases true = refl
+      cases false = refl
+
+  -- does the event lead on?
   offers : {P : StateSet M} {v : View} → Shows M P v → (a : ℕ) → Decides (someIn (eqb a) (v .offered)) (Offered M P a)
   offers {v = v} s a = decides-same (s .offered a) (decides-listed a (v .offered))
 
-  taken-goes : {P Q : StateSet M} {a : ℕ} {x : Answer} → Offered M P a → Responds eventRule M P tt (event a) x Q tt
-      → SameMembers M Q (Next M P a) × ((w : View) × (x ≡ told taken w))
-  taken-goes {P} {Q} {a} o r =
-      let s = r .shown-before .some .1 (o .1 .0, o .1 .1) in
-      let t = offers (r .shown-before) a .1 o in
-      (rw (s, t) at (r .members), (r .after, rw (s, t) at (r .answer)))
+  module _ {P Q : StateSet M} {a : ℕ} {x : Answer} {l : Bool} (r : Responds eventRule M P false (event a) x Q l) where
+    taken-goes : Offered M P a → SameMembers M Q (Next M P a) × (l ≡ false) × ((w : View) × (x ≡ told taken w))
+    taken-goes o =
+        let s = r .shown-before .some .1 (o .1 .0, o .1 .1) in
+        let t = offers (r .shown-before) a .1 o in
+        (rw (s, t) at (r .members), rw (s, t) at (r .kept), (r .after, rw (s, t) at (r .answer)))
 
-  -- a list of actions of a path to the end, as events: all are taken, and after them the end is a member
-  pub ends-follow : (xs : List ℕ) {P Q : StateSet M} {rs : List Answer}
-      → Follows eventRule M P tt (map event xs) rs Q tt → EndsFrom M P xs → HoldsEnd M Q × AllTaken rs
-  ends-follow [] none e = (ends-none .0 e, λ x m. absurd (List·Memᴰ·not-nil m))
-  ends-follow (a ∷ xs) (call r f) e =
+    other-spoils : Some M P → ¬ Offered M P a → l ≡ true
+    other-spoils p n = rw (r .shown-before .some .1 p, is-false (offers (r .shown-before) a) n) at (r .kept)
+
+  -- AFTER SOME EVENTS the end is a member and the state is not spoilt exactly if they are the actions of a path to the end
+  pub ends-unspoilt : (xs : List ℕ) {P Q : StateSet M} {rs : List Answer} {l : Bool}
+      → Some M P → Follows eventRule M P false (map event xs) rs Q l → ((l ≡ false) × HoldsEnd M Q) ↔ EndsFrom M P xs
+  ends-unspoilt [] p none = (λ (e, h). ends-none .1 h, λ e. (refl, ends-none .0 e))
+  ends-unspoilt (a ∷ xs) p (call r f) =
+      by-cases (decided (offers (r .shown-before) a))
+      (λ o.
+      let (m, k, t) = taken-goes r o in
+      Iff·trans (ends-unspoilt xs (o .0, m (o .0) .1 (o .1)) (rw k at f))
+      (Iff·trans (ends-carried (identity M) (lift-equal m) xs) (Iff·symm ends-next)))
+      (λ n. (
+        (λ (e, h). absurd (true≢false (sym (spoilt-stays xs (rw (other-spoils r p n) at f)) ∙ e))),
+        (λ e. let (y, h, g) = ends-next .0 e in absurd (n (y, h))),
+      ))
+
+  -- and then all are taken
+  pub ends-taken : (xs : List ℕ) {P Q : StateSet M} {rs : List Answer} {l : Bool}
+      → Follows eventRule M P false (map event xs) rs Q l → EndsFrom M P xs → AllTaken rs
+  ends-taken [] none e = λ x i. absurd (List·Memᴰ·not-nil i)
+  ends-taken (a ∷ xs) (call r f) e =
       let (y, n, g) = ends-next .0 e in
-      let (m, t) = taken-goes (y, n) r in
-      let (h, all) = ends-follow xs f (y, m y .1 n, g) in
-      (h, λ x i. ⊎-elim (λ q. (t .0, q ∙ t .1)) (all x) (List·Memᴰ·cases-cons i))
-
-  -- what is kept is as it was
-  kept-stays : {P Q : StateSet M} {a : ℕ} {x : Answer} → ¬ Offered M P a → Responds eventRule M P tt (event a) x Q tt
-      → (y : M .State) → Q y → P y
-  kept-stays {P} {Q} {a} n r y q = cases (r .before .some) refl
-    where
-      cases : (c : Bool) → r .before .some ≡ c → P y
-      cases true e = rw (e, is-false (offers (r .shown-before) a) n) at (r .members y .0 q)
-      cases false e = rw e at (r .members y .0 q)
-
-  -- and where the end is a member after some events, those that were taken are the actions of a path to it
-  pub follow-ends : (xs : List ℕ) {P Q : StateSet M} {rs : List Answer}
-      → Follows eventRule M P tt (map event xs) rs Q tt → HoldsEnd M Q
-      → (ys : List ℕ) × EndsFrom M P ys × ((ys ≡ xs) ⊎ (length ys < length xs))
-  follow-ends [] none h = ([], ends-none .1 h, inl refl)
-  follow-ends (a ∷ xs) {P} {Q} (call {Q = Z} r f) h = cases (follow-ends xs f h) (decided (offers (r .shown-before) a))
-    where
-      cases : (ys : List ℕ) × EndsFrom M Z ys × ((ys ≡ xs) ⊎ (length ys < length xs)) → Dec (Offered M P a)
-          → (ys : List ℕ) × EndsFrom M P ys × ((ys ≡ a ∷ xs) ⊎ (length ys < length (a ∷ xs)))
-      cases (ys, (y, z, e), c) (yes o) =
-          let (m, t) = taken-goes o r in
-          (a ∷ ys, ends-next .1 (y, m y .0 z, e), ⊎-elim (λ q. inl (ap (_∷_ a) q)) (λ l. inr (omega (arith, l))) c)
-      cases (ys, (y, z, e), c) (no n) =
-          (ys, (y, kept-stays n r y z, e), inr (⊎-elim (λ q. omega (arith, ap length q)) (λ l. omega (arith, l)) c))
-
-  -- THE SHORTEST LIST BY THE FOLLOWER'S OWN EVENTS is the one by paths. E says of a list that the end is a member after it
-  module _ {P : StateSet M} {E : List ℕ → Type 0}
-      (follows : (xs : List ℕ) → (Q : StateSet M) × (rs : List Answer)
-      × Follows eventRule M P tt (map event xs) rs Q tt × (E xs ↔ HoldsEnd M Q)) where
-    pub shortest-path : (xs : List ℕ) → Shortest E xs ↔ Shortest (EndsFrom M P) xs
-    shortest-path =
-        shortest-by
-        (λ xs e. let (Q, rs, f, h) = follows xs in h .1 (ends-follow xs f e .0))
-        (λ xs e. let (Q, rs, f, h) = follows xs in follow-ends xs f (h .0 e))
-
-    -- there is no list with E where no path leads to the end
-    pub no-list : ((xs : List ℕ) → ¬ EndsFrom M P xs) ↔ ((xs : List ℕ) → ¬ E xs)
-    no-list = (
-      λ n xs e. let (Q, rs, f, h) = follows xs in let (ys, g, c) = follow-ends xs f (h .0 e) in n ys g,
-      λ n xs e. let (Q, rs, f, h) = follows xs in n xs (h .1 (ends-follow xs f e .0)),
-    )
+      let (m, k, t) = taken-goes r (y, n) in
+      let all = ends-taken xs (rw k at f) (y, m y .1 n, g) in
+      λ x i. ⊎-elim (λ q. (t .0, q ∙ t .1)) (all x) (List·Memᴰ·cases-cons i)
 
   -- DISTANCES. One step more
   pub ends-in-more : {x y : M .State} {a n : ℕ} → M .Step x a y → EndsIn M n y → EndsIn M (suc n) x

@@ -1,5 +1,5 @@
--- Document 01's follower: the rule for restarts and events. Nothing is kept beside the set.
-use mathlib.Core.Bool.{Bool, cond}
+-- The follower's rule for restarts and events: document 01's, with the mark of document 02's C-15 kept beside the set.
+use mathlib.Core.Bool.{Bool, true, false, cond}
 use Prim.Native.Nat.{ℕ}
 use lib.Dec.{eqb}
 use lib.ListN.{length}
@@ -13,23 +13,29 @@ pub data Call : Type 0 where
 pub data Word : Type 0 where
   taken not-possible : Word
 
--- the word, whether the end is in the set, and how many different actions the set's members offer; or the refusal 53
+-- the word, whether the end is in the set, and how many different actions the set's members offer; "spoilt", whose two other
+-- values are always no and 0; or the refusal 53
 pub data Answer : Type 0 where
   answer : Word → Bool → ℕ → Answer
+  spoilt : Answer
   refused-53 : Answer
 
 abbrev pub told : Word → View → Answer
 told w v = answer w (v .end) (length (v .offered))
 
-abbrev pub reply : Effect → (View → Answer) → Response Answer (Unit {0})
-reply e x = record { effect = e; answer = x; kept = λ w. tt }
+-- what is kept is whether the state is spoilt; a reply says what it is after the call
+abbrev pub reply : Effect → (View → Answer) → Bool → Response Answer Bool
+reply e x mark = record { effect = e; answer = x; kept = λ w. mark }
 
-abbrev pub replyTo : Call → View → Response Answer (Unit {0})
-replyTo restart v = reply fresh (told taken)
-replyTo (event a) v =
-    cond (v .some)
-    (cond (someIn (eqb a) (v .offered)) (reply (go a) (told taken)) (reply keep (told not-possible)))
-    (reply keep (λ w. refused-53))
+-- an event where nothing is refused: on a spoilt state, with a target from some member, or without one
+abbrev pub stepReply : Bool → ℕ → View → Response Answer Bool
+stepReply mark a v =
+    cond mark (reply keep (λ w. spoilt) true)
+    (cond (someIn (eqb a) (v .offered)) (reply (go a) (told taken) false) (reply keep (told not-possible) true))
+
+abbrev pub replyTo : Bool → Call → View → Response Answer Bool
+replyTo mark restart v = reply fresh (told taken) false
+replyTo mark (event a) v = cond (v .some) (stepReply mark a v) (reply keep (λ w. refused-53) mark)
 
 abbrev pub eventRule : FollowerRule
-eventRule = record { Kept = Unit {0}; Call = Call; Answer = Answer; response = λ k c v. replyTo c v }
+eventRule = record { Kept = Bool; Call = Call; Answer = Answer; response = replyTo }

@@ -94,12 +94,11 @@ pub data Follows (rule : FollowerRule) (M : System)
       {c : rule .Call} {x : rule .Answer} {cs : List (rule .Call)} {xs : List (rule .Answer)}
       → Responds rule M P k c x Q l → Follows rule M Q l cs xs Z m → Follows rule M P k (c ∷ cs) (x ∷ xs) Z m
 
--- the answers from a fresh start with k kept, whatever is left
+-- the answers from a fresh start with k kept, after which l is kept, whatever members are left
 pub record Answers (rule : FollowerRule) (M : System) (k : rule .Kept)
-    (cs : List (rule .Call)) (xs : List (rule .Answer)) : Type 1 where
+    (cs : List (rule .Call)) (xs : List (rule .Answer)) (l : rule .Kept) : Type 1 where
   pub members : StateSet M
-  pub kept : rule .Kept
-  pub follows : Follows rule M (Fresh M) k cs xs members kept
+  pub follows : Follows rule M (Fresh M) k cs xs members l
 
 -- RULES THAT EMPTY NO SET: they keep it, start afresh, or go by an action that is offered
 pub data LeavesSome (v : View) : Effect → Type 0 where

@@ -24,6 +24,7 @@ pub mod Climbs
 pub mod Relations
 pub mod Followers
 pub mod Events
+pub mod Spoiling
 pub mod Ways
 -- an expression for a chart with its labelling, and its table of nodes
 pub mod LabelledCharts

@@ -79,9 +79,12 @@ callOn rule M s c =
     let w = viewOf M ys in
     (r .answer w, (r .kept w, ys))
 
--- the answers from a fresh start with k kept
+-- the answers from a fresh start with k kept, and what is kept after them
 abbrev pub runFresh : (rule : FollowerRule) (M : Machine) → rule .Kept → List (rule .Call) → List (rule .Answer)
 runFresh rule M k cs = run (callOn rule M) cs (k, M .start ∷ [])
+
+abbrev pub keptFresh : (rule : FollowerRule) (M : Machine) → rule .Kept → List (rule .Call) → rule .Kept
+keptFresh rule M k cs = runLeaves (callOn rule M) cs (k, M .start ∷ []) .0
 
 -- A CHART given by the list of its transitions, each beside its from
 abbrev pub fromAndMove : Transition → ℕ × (ℕ × ℕ)

@@ -30,7 +30,7 @@ same-length c = search needs
 returns-2 : tie.Need-returns-2
 returns-2 c =
     let o = c .before .before .before .before in
-    let (e, q) = lent-called _ _ (o .before .before .before .if1 .left) (o .before .state-of .ensures) (o .restart-from .ensures) in
+    let (e, q) = lent-called _ _ _ (o .before .before .before .if1 .left) (o .before .state-of .ensures) (o .restart-from .ensures) in
     (e, c .before .before .put-state .ensures ∙ q)
 
 pub restart-lent-spec : {M : Type 1} → statement M

@@ -1,11 +1,12 @@
 use mathlib.Core.Path.{sym, _∙_}
+use mathlib.Core.Logic.{⊎-elim}
 use native.Mathlib.Omega.{arith}
 use Rattle.bits.specs.Bits.{Bytes}
 use Rattle.chart.proofs.Checks.{well-formed}
 use Rattle.follower.specs.States.{stateIn}
 use Rattle.follower.specs.WayAnswers.{StatePasses}
-use Rattle.follower.proofs.Finds.{read-same, fits-passes, ready-stage, ready-fits}
-use Rattle.follower.proofs.WayCalls.{both-sym, way-refused, way-unready, way-no-state, found-way}
+use Rattle.follower.proofs.Finds.{read-held, fits-passes, ready-stage, ready-fits}
+use Rattle.follower.proofs.WayCalls.{both-sym, way-refused, way-unready, way-no-state, spoilt-way, found-way}
 use borrow.Author.Needs.{needs}
 use Rattle.follower.proofs.shortest_way.Statement.{statement}
 use Rattle.follower.proofs.shortest_way.Tie as tie
@@ -27,52 +28,76 @@ returns-2 c =
     let W = well-formed _ (sym (c .before .before .before .check .ensures) ∙ c .before .enum-told .given .1) in
     both-sym (way-no-state _ _ _ W (λ P. c .if1 .taken (P .long)))
 
+shared-slice-read-mark : tie.Need-shared-slice-read-mark
+shared-slice-read-mark c = search needs
+
 read-set-requires : tie.Need-read-set-requires
 read-set-requires c κs = search needs
 
 ready-requires : tie.Need-ready-requires
-ready-requires c κs = sym (c .before .before .before .before .check .ensures) ∙ c .before .before .enum-told .given .1
+ready-requires c κs =
+    let e = c .before .before .before in
+    sym (e .before .before .check .ensures) ∙ e .enum-told .given .1
 
 enum-known-place-2 : tie.Need-enum-known-place-2
 enum-known-place-2 c = search needs
 
-enum-told-2 : tie.Need-enum-told-2
-enum-told-2 c = search needs
-
-way-from-requires : tie.Need-way-from-requires
-way-from-requires c κs =
-    let e = c .before .before .before .before .before .before in
-    sym (e .before .before .check .ensures) ∙ e .enum-told .given .1
-
 returns-3 : tie.Need-returns-3
 returns-3 c =
     let r = c .before .before .before in
-    let e = r .before .before .before in
+    let e = r .before .before .before .before in
     let a = e .before .before .before .before .before .before in
-    let S = read-same (stateIn (a .args .state .now)) (r .before .read-set .ensures) in
-    both-sym (way-unready _ _ _ (sym (e .before .before .check .ensures) ∙ e .enum-told .given .1) (r .before .before .if1 .left)
+    let S = read-held (a .args .state .now) (r .before .read-set .ensures) in
+    both-sym (way-unready _ _ _ (sym (e .before .before .check .ensures) ∙ e .enum-told .given .1) (r .before .before .before .if1 .left)
     (sym (ready-stage (a .args .chart .now) (stateIn (a .args .state .now)) S (r .ready .ensures)) ∙ c .before .place2 .given .1))
 
-same-length : tie.Need-same-length
-same-length c = search needs
+enum-told-2 : tie.Need-enum-told-2
+enum-told-2 c = search needs
 
 returns-4 : tie.Need-returns-4
 returns-4 c =
-    let t = c .before .before .before .before in
+    let t = c .before in
     let r = t .before .before in
-    let e = r .before .before .before in
+    let e = r .before .before .before .before in
     let k = e .before .before .before in
     let a = k .before .before .before in
     let B : Bytes (a .args .chart .now) = λ i. omega (arith, k .before .before .shared-slice-known .given i) in
     let D : Bytes (a .args .state .now) = λ i. omega (arith, k .before .shared-slice-known2 .given i) in
-    let S = read-same (stateIn (a .args .state .now)) (r .before .read-set .ensures) in
+    let S = read-held (a .args .state .now) (r .before .read-set .ensures) in
     let P : StatePasses (a .args .chart .now) (a .args .state .now) = record {
       chart = well-formed _ (sym (e .before .before .check .ensures) ∙ e .enum-told .given .1);
-      long = r .before .before .if1 .left;
-      set = fits-passes (a .args .chart .now) (stateIn (a .args .state .now)) S .1
+      long = r .before .before .before .if1 .left;
+      fits = fits-passes (a .args .chart .now) (stateIn (a .args .state .now)) S .1
           (ready-fits (a .args .chart .now) (stateIn (a .args .state .now)) S (r .ready .ensures) (t .enum-told2 .given .1));
     } in
-    both-sym (found-way B D P S (c .before .before .way-from .ensures))
+    both-sym (spoilt-way B D P (c .if2 .taken))
+
+way-from-requires : tie.Need-way-from-requires
+way-from-requires c κs =
+    let e = c .before .before .before .before .before .before .before .before in
+    sym (e .before .before .check .ensures) ∙ e .enum-told .given .1
+
+same-length : tie.Need-same-length
+same-length c = search needs
+
+returns-5 : tie.Need-returns-5
+returns-5 c =
+    let n = c .before .before .before .before in
+    let t = n .before in
+    let r = t .before .before in
+    let e = r .before .before .before .before in
+    let k = e .before .before .before in
+    let a = k .before .before .before in
+    let B : Bytes (a .args .chart .now) = λ i. omega (arith, k .before .before .shared-slice-known .given i) in
+    let D : Bytes (a .args .state .now) = λ i. omega (arith, k .before .shared-slice-known2 .given i) in
+    let S = read-held (a .args .state .now) (r .before .read-set .ensures) in
+    let P : StatePasses (a .args .chart .now) (a .args .state .now) = record {
+      chart = well-formed _ (sym (e .before .before .check .ensures) ∙ e .enum-told .given .1);
+      long = r .before .before .before .if1 .left;
+      fits = fits-passes (a .args .chart .now) (stateIn (a .args .state .now)) S .1
+          (ready-fits (a .args .chart .now) (stateIn (a .args .state .now)) S (r .ready .ensures) (t .enum-told2 .given .1));
+    } in
+    both-sym (found-way B D P (⊎-elim (λ u. u) (λ u. absurd (n .if2 .left u)) (P .fits .marked)) S (c .before .before .way-from .ensures))
 
 pub shortest-way-spec : {M : Type 1} → statement M
 shortest-way-spec =
@@ -83,11 +108,13 @@ shortest-way-spec =
     returns
     enum-told
     returns-2
+    shared-slice-read-mark
     read-set-requires
     ready-requires
     enum-known-place-2
-    enum-told-2
-    way-from-requires
     returns-3
+    enum-told-2
+    returns-4
+    way-from-requires
     same-length
-    returns-4)
+    returns-5)

@@ -1,15 +1,14 @@
 use borrow.Author.Needs.{needs}
-use mathlib.Core.Path.{_≡_, refl, ap}
+use mathlib.Core.Path.{_≡_, refl}
 use Prim.Native.Nat.{_-_, _≤_}
 use native.Mathlib.Omega.{arith}
-use lib.ListN.{length}
-use Rattle.follower.specs.States.{stateIn}
-use Rattle.follower.proofs.Copies.{Copied, copied-none, copied-more, copied-all}
+use lib.ListN.{length, getD}
+use Rattle.follower.proofs.Copies.{Copied, copied-none, copied-more, copied-from}
 use Rattle.follower.proofs.state_of.Statement.{statement}
 use Rattle.follower.proofs.state_of.Tie as tie
 
 abbrev Inv-loop : tie.InvT-loop
-Inv-loop state set₀ i₀ set i = (length state ≡ 16) × (i ≤ 16) × Copied state i set
+Inv-loop state set₀ i₀ set i = (length state ≡ 17) × (i ≤ 16) × Copied 16 state i set
 
 abbrev μ-loop : tie.MeasureT-loop
 μ-loop state set₀ i₀ set i = 16 - i
@@ -34,8 +33,14 @@ loop-again c =
     let i = c .before .before .loop .inv in
     (i .0, omega (arith, c .before .loop-test .taken), copied-more (c .before .loop-test .taken) (i .2))
 
+shared-slice-read-t11 : tie.Need-shared-slice-read-t11 Inv-loop μ-loop
+shared-slice-read-t11 c = omega (arith, c .before .before .loop .inv .0)
+
 returns : tie.Need-returns Inv-loop μ-loop
-returns c = let i = c .before .loop .inv in ap stateIn (copied-all (i .0) (c .loop-test .left) (i .2))
+returns c =
+    let i = c .before .before .loop .inv in
+    let e = copied-from (i .0) (c .before .loop-test .left) (i .2) in
+    λ j. record { set = e j; mark = getD (c .before .before .before .args .state .now) 16 0 }
 
 pub state-of-spec : {M : Type 1} → statement M
 state-of-spec =
@@ -49,4 +54,5 @@ state-of-spec =
     add-i
     loop-less
     loop-again
+    shared-slice-read-t11
     returns)

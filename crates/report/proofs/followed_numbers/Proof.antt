@@ -22,6 +22,12 @@ flag-number-requires-2 c κs = search needs
 four-numbers-requires-2 : tie.Need-four-numbers-requires-2
 four-numbers-requires-2 c κs = search needs
 
+enum-told : tie.Need-enum-told
+enum-told c = search needs
+
+four-numbers-requires-3 : tie.Need-four-numbers-requires-3
+four-numbers-requires-3 c κs = search needs
+
 enum-known-followed-3 : tie.Need-enum-known-followed-3
 enum-known-followed-3 c = search needs
 
@@ -39,7 +45,10 @@ returns-2 c =
     (c .before .flag-number2 .ensures) ∙ sym (ap followedNumbers (c .before .before .before .followed2 .given .1))
 
 returns-3 : tie.Need-returns-3
-returns-3 c = c .place-numbers .ensures ∙ sym (ap followedNumbers (c .before .before .followed3 .given .1))
+returns-3 c = c .four-numbers3 .ensures ∙ sym (ap followedNumbers (c .before .enum-told .given .1))
+
+returns-4 : tie.Need-returns-4
+returns-4 c = c .place-numbers .ensures ∙ sym (ap followedNumbers (c .before .before .followed3 .given .1))
 
 pub followed-numbers-spec : {M : Type 1} → statement M
 followed-numbers-spec =
@@ -51,8 +60,11 @@ followed-numbers-spec =
     enum-known-followed-2
     flag-number-requires-2
     four-numbers-requires-2
+    enum-told
+    four-numbers-requires-3
     enum-known-followed-3
     place-numbers-requires
     returns
     returns-2
-    returns-3)
+    returns-3
+    returns-4)
