@@ -1,7 +1,7 @@
 /* A small panel: `panel FILE` has a yard file checked, restarts over its chart and follows the actions
  * whose numbers come in on standard input. For each it says whether it is taken, whether the end is
- * reached, and how many actions are offered next. Where `?` comes in, it says which actions finish the
- * run.
+ * reached, and how many actions are offered next. An action that is not possible spoils the run. Where
+ * the word `r` comes in, it restarts; where `?` does, it says which actions finish the run.
  *
  * Exit status: 0; 1 where something is refused; 2 where the file cannot be read. */
 #include "sequence.h"
@@ -38,7 +38,8 @@ static int refused(const char *what, seq_numbers said)
 
 static void print_followed(seq_numbers said)
 {
-    printf("%s, end %s, offered %" PRIu64 "\n", said.p ? "taken" : "not possible", said.q ? "yes" : "no", said.r);
+    const char *word = said.p == SEQ_TAKEN ? "taken" : said.p == SEQ_SPOILT ? "spoilt" : "not possible";
+    printf("%s, end %s, offered %" PRIu64 "\n", word, said.q ? "yes" : "no", said.r);
 }
 
 /* The shortest way to the end. After a call with the same chart and state, no refusal but SEQ_NO_WAY comes. */
@@ -52,8 +53,8 @@ static void print_way(const uint8_t *chart, size_t chart_len, const uint8_t *sta
     printf("\n");
 }
 
-/* Where the next word of the input is no action, where there is none, and where it asks for the way. */
-enum { NO_ACTION = 256, NO_WORD, ASKS_WAY };
+/* Where the next word of the input is no action, where there is none, and where it asks for the way or to restart. */
+enum { NO_ACTION = 256, NO_WORD, ASKS_WAY, RESTART };
 
 static int next_action(void)
 {
@@ -65,6 +66,10 @@ static int next_action(void)
         return NO_WORD;
     if (c == '?')
         return ASKS_WAY;
+    if (c == 'r') { /* a longer word is no action below */
+        action = RESTART;
+        c = getchar();
+    }
     for (; c != EOF && !isspace(c); c = getchar()) {
         action = isdigit(c) ? 10 * action + (c - '0') : NO_ACTION;
         if (action > NO_ACTION)
@@ -76,12 +81,7 @@ static int next_action(void)
 static int follow(const uint8_t *chart, size_t chart_len)
 {
     uint8_t state[SEQ_STATE];
-    seq_numbers said = seq_restart(chart, chart_len, state, sizeof state);
-    if (said.n != 0)
-        return refused("restart", said);
-    printf("restart: ");
-    print_followed(said);
-    for (int action = next_action(); action != NO_WORD; action = next_action()) {
+    for (int action = RESTART; action != NO_WORD; action = next_action()) {
         if (action == ASKS_WAY) {
             print_way(chart, chart_len, state);
             continue;
@@ -90,10 +90,15 @@ static int follow(const uint8_t *chart, size_t chart_len)
             printf("no action: an action is a number from 0 to 255\n");
             continue;
         }
-        said = seq_event(chart, chart_len, state, sizeof state, (uint8_t)action);
+        int restarts = action == RESTART;
+        seq_numbers said = restarts ? seq_restart(chart, chart_len, state, sizeof state)
+                                    : seq_event(chart, chart_len, state, sizeof state, (uint8_t)action);
         if (said.n != 0)
-            return refused("event", said);
-        printf("event %d: ", action);
+            return refused(restarts ? "restart" : "event", said);
+        if (restarts)
+            printf("restart: ");
+        else
+            printf("event %d: ", action);
         print_followed(said);
     }
     return 0;

@@ -17,9 +17,13 @@ extern "C" {
 
 /* The version of this header. It goes to the next hundred where a program for the version before has to be
  * looked at again: a call takes or answers something else, or a length such as SEQ_STATE is another. It goes
- * up by one where something is only added. So a program for this version or a later one up to 199 may say
- * `#if SEQ_VERSION / 100 != 1`, `#error`. */
-#define SEQ_VERSION 101
+ * up by one where something is only added. So a program for this version or a later one up to 299 may say
+ * `#if SEQ_VERSION / 100 != 2`, `#error`.
+ *
+ * A program for 100 or 101 has to be changed where it follows events. After an event that is not possible only
+ * a restart goes on. p of an event can be SEQ_SPOILT, which is not 0 and not taken either. A state has 17 bytes,
+ * and one of 16 is refused by 53: lend SEQ_STATE bytes; put a byte 0 behind a state that was stored, or restart. */
+#define SEQ_VERSION 200
 
 /* n is the number of a refusal, as documents 01 and 02 have it, and p, q, r its places, unused ones 0.
  * Where nothing is refused n is 0 and p, q, r are what the call says below. */
@@ -77,8 +81,11 @@ typedef enum seq_refusal {
 #define SEQ_LONGEST_CHART 32772
 #define SEQ_LONGEST_EXPRESSION 508
 
-/* The length of a follower's state, in bytes. */
-#define SEQ_STATE 16
+/* The length of a follower's state, in bytes: a set of vertices, 16, and the mark. */
+#define SEQ_STATE 17
+
+/* The words of a follower's answer: p of seq_restart and seq_event, where n is 0. */
+enum { SEQ_NOT_POSSIBLE = 0, SEQ_TAKEN = 1, SEQ_SPOILT = 2 };
 
 /* The most loops that seq_remove_together takes out. */
 #define SEQ_MOST_LOOPS 64
@@ -202,34 +209,40 @@ seq_numbers seq_remove_together(const uint8_t *chart, size_t chart_len, const ui
                                 const uint8_t *loops, size_t loops_len, uint8_t *standing, size_t standing_len);
 
 /* A follower of events. chart is the body of a record of kind 2, or what seq_write_chart has written.
- * state is SEQ_STATE bytes, a set of its vertices: vertex v is in it where byte v / 8 has the bit worth
- * 2 to the power of v % 8. A restart comes first, and makes the set the chart's start alone, whatever it
- * was; each event after it is lent what the call before left, with the same chart.
+ * state is SEQ_STATE bytes, a set of its vertices and then the mark. Vertex v is in the set where byte v / 8
+ * has the bit worth 2 to the power of v % 8; byte 16 is the mark, 1 where the run is spoilt and else 0. A
+ * restart comes first, and makes the set the chart's start alone and the mark 0, whatever they were; each
+ * event after it is lent what the call before left, with the same chart.
  *
- * Taken: n 0, p 1, q 1 where the end is in the set and else 0, r the number of different actions that
- * the vertices of the set offer. The state is the new set.
+ * Taken: n 0, p SEQ_TAKEN, q 1 where the end is in the set and else 0, r the number of different actions that
+ * the vertices of the set offer. The state is the new set, with mark 0.
  * Refused: n 20 or 21 for the chart; n 53 where state has another length. No byte of state is changed.
  * The chart is only read. */
 seq_numbers seq_restart(const uint8_t *chart, size_t chart_len, uint8_t *state, size_t state_len);
 
 /* An event: where some transition with this action leaves a vertex of the set, the set becomes all
- * that such transitions lead to. Action 0 is no transition's.
+ * that such transitions lead to; where none does, the run is spoilt until a restart. Action 0 is no
+ * transition's.
  *
- * Taken: n 0, p 1, q and r as for seq_restart. The state is the new set.
- * Not possible: n 0, p 0, q and r as for seq_restart. No byte of state is changed.
- * Refused: n 20 or 21 for the chart; n 53 where state has another length, the set is empty, or a vertex
- * of it is not below the chart's number of vertices. No byte of state is changed.
+ * Taken: n 0, p SEQ_TAKEN, q and r as for seq_restart. The state is the new set, with mark 0.
+ * Not possible: n 0, p SEQ_NOT_POSSIBLE, q and r as for seq_restart, of the set, which stays. The mark
+ * becomes 1; no other byte of state is changed.
+ * Spoilt, whatever the action, where the mark is 1 and nothing is refused: n 0, p SEQ_SPOILT, q and r 0. No
+ * byte of state is changed.
+ * Refused: n 20 or 21 for the chart; n 53 where state has another length, the set is empty, a vertex of it
+ * is not below the chart's number of vertices, or the mark is above 1. No byte of state is changed.
  * The chart is only read. */
 seq_numbers seq_event(const uint8_t *chart, size_t chart_len, uint8_t *state, size_t state_len, uint8_t action);
 
 /* Writes the shortest list of events after which the end is in the set to the beginning of out, a byte
  * for each event; of several lists of that length, the one with the lower action where they first differ.
- * chart and state are as for seq_event.
+ * chart and state are as for seq_event. From a spoilt state no list leads to the end.
  *
  * Written: n 0, p the number of events, below the chart's number of vertices, q and r 0. p is 0 where the
  * end is in the set already. The bytes of out past p are kept.
- * Refused: n 20 or 21 for the chart; n 53 as for seq_event; n 55 where no list of events leads to the end;
- * n 54 where out is too short, p the bytes needed. No byte of out is changed.
+ * Refused: n 20 or 21 for the chart; n 53 as for seq_event; n 55 where the mark is 1, also with the end in
+ * the set, and where no list of events leads to the end; n 54 where out is too short, p the bytes needed.
+ * No byte of out is changed.
  * The chart and the state are only read. SEQ_LONGEST_WAY bytes are enough for every chart. */
 seq_numbers seq_shortest_way(const uint8_t *chart, size_t chart_len, const uint8_t *state, size_t state_len,
                              uint8_t *out, size_t out_len);

@@ -16,6 +16,11 @@ int main()
     const bool read = checked.n == SEQ_RECORD_INCOMPLETE && checked.p == 1 && written.n == SEQ_EXPRESSION_LENGTH;
     const bool left = drawn.n == SEQ_CHART_HEAD && removed.n == SEQ_CHART_HEAD && together.n == SEQ_CHART_HEAD;
     const bool lent = restarted.n == SEQ_CHART_HEAD && followed.n == SEQ_CHART_HEAD && way.n == SEQ_CHART_HEAD;
-    const bool found = body.bytes == file + 4 && body.len == 1 && SEQ_VERSION / 100 == 1;
-    return read && left && lent && found ? 0 : 1;
+    const bool found = body.bytes == file + 4 && body.len == 1 && SEQ_VERSION / 100 == 2;
+    const uint8_t chart[] = {2, 1, 1, 0, 1, 1, 0, 0};
+    uint8_t state[SEQ_STATE];
+    const bool told = seq_restart(chart, sizeof chart, state, sizeof state).p == SEQ_TAKEN &&
+                      seq_event(chart, sizeof chart, state, sizeof state, 2).p == SEQ_NOT_POSSIBLE &&
+                      seq_event(chart, sizeof chart, state, sizeof state, 1).p == SEQ_SPOILT;
+    return read && left && lent && found && told ? 0 : 1;
 }

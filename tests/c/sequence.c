@@ -1,6 +1,6 @@
 /* Runs the C library: document 01's starred cases of the check, of the expression's chart, of the
- * removal and of the follower, expressions for charts, loops taken out together, shortest ways, the bodies
- * of a file, empty slices, the limits, and lent buffers of each length that matters.
+ * removal and of the follower, expressions for charts, loops taken out together, shortest ways, spoilt runs,
+ * the bodies of a file, empty slices, the limits, and lent buffers of each length that matters.
  * Prints what is wrong and, last, the count of cases; exits with 1 where something is wrong. */
 #define _DEFAULT_SOURCE
 #include "sequence.h"
@@ -1427,6 +1427,9 @@ typedef struct follower {
 
 enum { RESTART = -1 };
 
+/* The byte of a state that is 1 where the run is spoilt. */
+enum { MARK = 16 };
+
 /* One call, a restart or the event of an action; its answer and every lent byte are held to what is
  * wanted, and without `left` the state is to be kept. The next call goes on with what this one left. */
 static void expect_follow(const char *name, follower *lent, int event, seq_numbers want, const uint8_t *left)
@@ -1450,12 +1453,22 @@ static seq_numbers taken(uint64_t end, uint64_t offered)
     return numbers(0, 1, end, offered);
 }
 
-static seq_numbers not_possible(uint64_t end, uint64_t offered)
-{
-    return numbers(0, 0, end, offered);
-}
-
+static const seq_numbers SPOILT = {0, 2, 0, 0};
 static const seq_numbers NO_SET = {53, 0, 0, 0};
+static const seq_numbers NO_WAY = {55, 0, 0, 0};
+
+/* Lengths that are no state's. */
+static const size_t OTHER_LENS[6] = {0, 1, 15, 16, 18, 32};
+
+/* An event that is not possible: of the state the mark alone becomes another. The same event then finds it spoilt. */
+static void expect_spoiling(const char *name, follower *lent, int event, uint64_t end, uint64_t offered)
+{
+    uint8_t left[SEQ_STATE];
+    memcpy(left, lent->state.bytes, SEQ_STATE);
+    left[MARK] = 1;
+    expect_follow(name, lent, event, numbers(0, 0, end, offered), left);
+    expect_follow(name, lent, event, SPOILT, NULL);
+}
 
 static void set_chart(follower *lent, const uint8_t *bytes, size_t len)
 {
@@ -1463,16 +1476,23 @@ static void set_chart(follower *lent, const uint8_t *bytes, size_t len)
     lent->state.len = SEQ_STATE;
 }
 
-/* The set of the vertices from `low` to before `high`. */
-static void set_vertices(follower *lent, unsigned low, unsigned high)
+/* The set of the vertices from `low` to before `high`, and the mark. */
+static void set_marked(follower *lent, unsigned low, unsigned high, uint8_t mark)
 {
     lent->state.len = SEQ_STATE;
     memset(lent->state.bytes, 0, SEQ_STATE);
     for (unsigned v = low; v < high; v++)
         lent->state.bytes[v / 8] |= (uint8_t)(1u << v % 8);
+    lent->state.bytes[MARK] = mark;
 }
 
-/* Document 01's list, from a set of all bits, over a chart of G. */
+/* The same, not spoilt. */
+static void set_vertices(follower *lent, unsigned low, unsigned high)
+{
+    set_marked(lent, low, high, 0);
+}
+
+/* Document 01's list, from a state of all bits, over a chart of G. */
 static void starred_run(const char *name, const uint8_t *chart, size_t len)
 {
     static follower lent;
@@ -1483,7 +1503,7 @@ static void starred_run(const char *name, const uint8_t *chart, size_t len)
     expect_follow(name, &lent, RESTART, taken(0, 2), start);
     expect_follow(name, &lent, 1, taken(0, 2), start);
     expect_follow(name, &lent, 2, taken(1, 0), end);
-    expect_follow(name, &lent, 1, not_possible(1, 0), NULL);
+    expect_spoiling(name, &lent, 1, 1, 0);
     expect_follow(name, &lent, RESTART, taken(0, 2), start);
 }
 
@@ -1504,17 +1524,18 @@ static void sets_of_several_vertices(void)
     expect_follow("the start alone", &lent, RESTART, taken(0, 2), (uint8_t[SEQ_STATE]){2});
     expect_follow("to vertices 1 and 2", &lent, 1, taken(0, 3), (uint8_t[SEQ_STATE]){6});
     expect_follow("to the end and 1 and 2", &lent, 1, taken(1, 3), (uint8_t[SEQ_STATE]){7});
-    expect_follow("an action that none offers", &lent, 4, not_possible(1, 3), NULL);
+    expect_spoiling("an action that none offers", &lent, 4, 1, 3);
+    set_vertices(&lent, 0, 3);
     expect_follow("an action of vertex 2 alone", &lent, 3, taken(0, 2), (uint8_t[SEQ_STATE]){4});
-    expect_follow("an action of vertex 1 alone", &lent, 2, not_possible(0, 2), NULL);
+    expect_spoiling("an action of vertex 1 alone", &lent, 2, 0, 2);
     /* Vertex 2 deadlocks: nothing is offered, and it is not the end. */
     set_chart(&lent, (uint8_t[]){3, 1, 1, 0, 1, 1, 2, 0}, 8);
     expect_follow("a start", &lent, RESTART, taken(0, 1), (uint8_t[SEQ_STATE]){2});
     expect_follow("to a deadlock", &lent, 1, taken(0, 0), (uint8_t[SEQ_STATE]){4});
-    expect_follow("at a deadlock", &lent, 1, not_possible(0, 0), NULL);
+    expect_spoiling("at a deadlock", &lent, 1, 0, 0);
     set_chart(&lent, (uint8_t[]){2, 1, 0, 0}, 4);
     expect_follow("a start that deadlocks", &lent, RESTART, taken(0, 0), (uint8_t[SEQ_STATE]){2});
-    expect_follow("and an event", &lent, 1, not_possible(0, 0), NULL);
+    expect_spoiling("and an event", &lent, 1, 0, 0);
 }
 
 /* Of 1 to 255 vertex 1 has the actions that are no multiple of 7, and each leads to the vertex that is
@@ -1537,32 +1558,30 @@ static void every_event(void)
         lent.state.len = SEQ_STATE;
         expect_follow("before each event", &lent, RESTART, taken(0, offered), (uint8_t[SEQ_STATE]){2});
         if (action % 7 == 0)
-            expect_follow("an event of no transition", &lent, (int)action, not_possible(0, offered), NULL);
+            expect_spoiling("an event of no transition", &lent, (int)action, 0, offered);
         else
             expect_follow("an event of a transition", &lent, (int)action,
                           taken(to == 0, to == 1 ? offered : to == 127), left);
     }
 }
 
-/* 53 for each of its causes, and 20 and 21 before it. */
-static void refused_events(void)
+/* 53 for each of its causes but the mark, and 20 and 21 before it: whatever the mark is. */
+static void refused_events(uint8_t mark)
 {
     static follower lent;
-    static const size_t other_lens[] = {0, 1, 15, 17, 32};
     set_chart(&lent, G + 20, 12);
-    memset(lent.state.bytes, 0, 32);
-    lent.state.bytes[0] = 2;
-    for (size_t k = 0; k < 5; k++) {
-        lent.state.len = other_lens[k];
+    set_marked(&lent, 1, 2, mark);
+    for (size_t k = 0; k < 6; k++) {
+        lent.state.len = OTHER_LENS[k];
         expect_follow("a state too long or too short", &lent, RESTART, NO_SET, NULL);
         expect_follow("such, and an event", &lent, 1, NO_SET, NULL);
     }
-    set_vertices(&lent, 0, 0);
+    set_marked(&lent, 0, 0, mark);
     for (int action = 0; action < 256; action++)
         expect_follow("the empty set", &lent, action, NO_SET, NULL);
     expect_follow("the empty set, restarted", &lent, RESTART, taken(0, 2), (uint8_t[SEQ_STATE]){2});
     for (unsigned v = 2; v < 128; v++) {
-        set_vertices(&lent, v, v + 1);
+        set_marked(&lent, v, v + 1, mark);
         expect_follow("a vertex of V or above", &lent, 1, NO_SET, NULL);
         lent.state.bytes[0] |= 2;
         expect_follow("such, and the start", &lent, 1, NO_SET, NULL);
@@ -1570,8 +1589,8 @@ static void refused_events(void)
     }
     expect_follow("such, restarted", &lent, RESTART, taken(0, 2), (uint8_t[SEQ_STATE]){2});
     for (size_t k = 0; k < 3; k++) {
-        set_vertices(&lent, 0, (unsigned)k);
-        lent.state.len = k == 1 ? 15 : SEQ_STATE;
+        set_marked(&lent, 0, (unsigned)k, mark);
+        lent.state.len = k == 1 ? 16 : SEQ_STATE;
         lent.chart.bytes[4 + 4 * 1 + 3] = 1;
         expect_follow("transition 1 with a last byte", &lent, RESTART, numbers(21, 1, 0, 0), NULL);
         expect_follow("such, and an event", &lent, 1, numbers(21, 1, 0, 0), NULL);
@@ -1591,14 +1610,14 @@ static void following_the_full_chart(void)
 {
     static follower lent;
     static body labels;
-    uint8_t left[SEQ_STATE];
+    uint8_t left[SEQ_STATE] = {0};
     put_full_chart(&lent.chart, &labels);
     lent.state.len = SEQ_STATE;
-    memset(left, 0, SEQ_STATE);
     left[15] = 0x80;
     expect_follow("start 127", &lent, RESTART, taken(0, 1), left);
-    expect_follow("no such action", &lent, 255, not_possible(0, 1), NULL);
-    memset(left, 0xFF, SEQ_STATE);
+    expect_spoiling("no such action", &lent, 255, 0, 1);
+    expect_follow("start 127 again", &lent, RESTART, taken(0, 1), left);
+    memset(left, 0xFF, MARK);
     left[0] = 0xFE;
     left[15] = 0x7F;
     expect_follow("to all lower ones", &lent, 1, taken(0, 1), left);
@@ -1606,9 +1625,11 @@ static void following_the_full_chart(void)
     expect_follow("from 1 to all", &lent, 1, taken(0, 1), left);
     expect_follow("to all again", &lent, 1, taken(0, 1), left);
     set_vertices(&lent, 0, 128);
-    expect_follow("all vertices, no such action", &lent, 2, not_possible(1, 1), NULL);
+    expect_spoiling("all vertices, no such action", &lent, 2, 1, 1);
     lent.chart.bytes[4 + 4 * 8191 + 1] = 2;
-    expect_follow("all vertices, the last transition", &lent, 0, not_possible(1, 2), NULL);
+    set_vertices(&lent, 0, 128);
+    expect_spoiling("all vertices, the last transition", &lent, 0, 1, 2);
+    set_vertices(&lent, 0, 128);
     memset(left, 0, SEQ_STATE);
     left[15] = 0x40;
     expect_follow("by the last transition", &lent, 2, taken(0, 1), left);
@@ -1747,45 +1768,44 @@ static void no_way_to_the_end(void)
 {
     static follower lent;
     static const uint8_t chart[] = {5, 1, 5, 0, 1, 1, 2, 0, 1, 2, 0, 0, 1, 3, 3, 0, 3, 2, 4, 0, 4, 2, 3, 0};
-    seq_numbers none = numbers(55, 0, 0, 0);
     set_chart(&lent, chart, sizeof chart);
     set_vertices(&lent, 2, 3);
-    expect_no_way("a deadlock", &lent, none);
+    expect_no_way("a deadlock", &lent, NO_WAY);
     set_vertices(&lent, 3, 5);
-    expect_no_way("round for ever", &lent, none);
+    expect_no_way("round for ever", &lent, NO_WAY);
     set_vertices(&lent, 2, 5);
-    expect_no_way("all of these", &lent, none);
+    expect_no_way("all of these", &lent, NO_WAY);
     set_vertices(&lent, 1, 5);
     expect_way_in_each_buffer("these and the start", &lent, (uint8_t[]){2}, 1);
     set_chart(&lent, (uint8_t[]){2, 1, 0, 0}, 4);
     set_vertices(&lent, 1, 2);
-    expect_no_way("no transition", &lent, none);
+    expect_no_way("no transition", &lent, NO_WAY);
     set_vertices(&lent, 0, 2);
     expect_way_in_each_buffer("no transition, and the end", &lent, NULL, 0);
 }
 
-/* 53 for each of its causes, and 20 and 21 before it; all of them before 54 and 55. */
-static void refused_ways(void)
+/* 53 for each of its causes but the mark, and 20 and 21 before it; all of them before 54 and 55, whatever the
+ * mark is. */
+static void refused_ways(uint8_t mark)
 {
     static follower lent;
-    static const size_t other_lens[] = {0, 1, 15, 17, 32};
     set_chart(&lent, G + 20, 12);
-    set_vertices(&lent, 1, 2);
-    for (size_t k = 0; k < 5; k++) {
-        lent.state.len = other_lens[k];
+    set_marked(&lent, 1, 2, mark);
+    for (size_t k = 0; k < 6; k++) {
+        lent.state.len = OTHER_LENS[k];
         expect_no_way("a state too long or too short", &lent, NO_SET);
     }
-    set_vertices(&lent, 0, 0);
+    set_marked(&lent, 0, 0, mark);
     expect_no_way("the empty set", &lent, NO_SET);
     for (unsigned v = 2; v < 128; v++) {
-        set_vertices(&lent, v, v + 1);
+        set_marked(&lent, v, v + 1, mark);
         expect_no_way("a vertex of V or above", &lent, NO_SET);
         lent.state.bytes[0] |= 3;
         expect_no_way("such, and the end", &lent, NO_SET);
     }
     for (size_t k = 0; k < 4; k++) {
-        set_vertices(&lent, 0, (unsigned)k);
-        lent.state.len = k == 1 ? 15 : SEQ_STATE;
+        set_marked(&lent, 0, (unsigned)k, mark);
+        lent.state.len = k == 1 ? 16 : SEQ_STATE;
         lent.chart.bytes[4 + 4 * 1 + 3] = 1;
         expect_no_way("transition 1 with a last byte", &lent, numbers(21, 1, 0, 0));
         lent.chart.bytes[0] = 129;
@@ -1803,13 +1823,13 @@ static void ways_over_the_full_chart(void)
     static body labels;
     put_full_chart(&lent.chart, &labels);
     set_vertices(&lent, 127, 128);
-    expect_no_way("the full chart", &lent, numbers(55, 0, 0, 0));
+    expect_no_way("the full chart", &lent, NO_WAY);
     lent.chart.bytes[4 + 2] = 0;
     expect_way_in_each_buffer("by vertex 1", &lent, (uint8_t[]){1, 1}, 2);
     set_vertices(&lent, 1, 128);
     expect_way_in_each_buffer("from vertex 1", &lent, (uint8_t[]){1}, 1);
     lent.chart.bytes[4 + 2] = 1;
-    expect_no_way("from all but the end", &lent, numbers(55, 0, 0, 0));
+    expect_no_way("from all but the end", &lent, NO_WAY);
     lent.chart.bytes[4 + 4 * 8191 + 1] = 255;
     lent.chart.bytes[4 + 4 * 8191 + 2] = 0;
     expect_way_in_each_buffer("by the last transition", &lent, (uint8_t[]){255}, 1);
@@ -1817,6 +1837,66 @@ static void ways_over_the_full_chart(void)
     expect_way_in_each_buffer("from 2 by 1 to the last vertex", &lent, (uint8_t[]){1, 1, 255}, 3);
     lent.chart.bytes[4 + 4 * 8191 + 3] = 1;
     expect_no_way("a last byte in the last transition", &lent, numbers(21, 8191, 0, 0));
+}
+
+/* Spoilt runs. */
+
+/* Of each set of G's vertices: event 0 spoils it, then no event is looked at, and a restart goes on. */
+static void spoilt_until_a_restart(void)
+{
+    static follower lent;
+    set_chart(&lent, G + 20, 12);
+    for (unsigned low = 0; low < 2; low++) {
+        for (unsigned high = low + 1; high <= 2; high++) {
+            set_vertices(&lent, low, high);
+            expect_spoiling("event 0", &lent, 0, low == 0, high == 2 ? 2 : 0);
+            for (int action = 0; action < 256; action++)
+                expect_follow("an event of a spoilt run", &lent, action, SPOILT, NULL);
+            expect_follow("a spoilt run, restarted", &lent, RESTART, taken(0, 2), (uint8_t[SEQ_STATE]){2});
+            expect_follow("and an event", &lent, 2, taken(1, 0), (uint8_t[SEQ_STATE]){1});
+        }
+    }
+}
+
+/* 55 of a spoilt state over the chart of G's expression, also with the end in its set; from the same set, not
+ * spoilt, a way. */
+static void no_way_from_a_spoilt_state(void)
+{
+    static follower lent;
+    static const uint8_t way[2] = {1, 2};
+    set_chart(&lent, G_CHART, sizeof G_CHART);
+    for (unsigned low = 0; low < 4; low++) {
+        for (unsigned high = low + 1; high <= 4; high++) {
+            size_t len = low == 0 ? 0 : high == 2 ? 2 : 1;
+            set_marked(&lent, low, high, 1);
+            expect_no_way("a spoilt state", &lent, NO_WAY);
+            set_vertices(&lent, low, high);
+            expect_way_in_each_buffer("the same, not spoilt", &lent, way + 2 - len, len);
+        }
+    }
+}
+
+/* 53 for each mark above 1, with the end in the set, until a restart. */
+static void marks_above_1(void)
+{
+    static follower lent;
+    set_chart(&lent, G + 20, 12);
+    for (unsigned mark = 2; mark < 256; mark++) {
+        set_marked(&lent, 0, 2, (uint8_t)mark);
+        for (int action = 0; action < 4; action++)
+            expect_follow("a mark above 1", &lent, action, NO_SET, NULL);
+        expect_no_way("such, and a way", &lent, NO_SET);
+        expect_follow("such, restarted", &lent, RESTART, taken(0, 2), (uint8_t[SEQ_STATE]){2});
+    }
+}
+
+static void refused_with_each_mark(void)
+{
+    static const uint8_t marks[4] = {0, 1, 2, 255};
+    for (size_t k = 0; k < 4; k++) {
+        refused_events(marks[k]);
+        refused_ways(marks[k]);
+    }
 }
 
 int main(void)
@@ -1869,15 +1949,17 @@ int main(void)
     starred_runs();
     sets_of_several_vertices();
     every_event();
-    refused_events();
     following_the_full_chart();
     ways_of_g();
     ways_along_one_line();
     ways_of_equal_length();
     ways_by_every_action();
     no_way_to_the_end();
-    refused_ways();
     ways_over_the_full_chart();
+    spoilt_until_a_restart();
+    no_way_from_a_spoilt_state();
+    marks_above_1();
+    refused_with_each_mark();
     printf("C: %u cases, %u wrong\n", cases, wrong);
     return wrong == 0 ? 0 : 1;
 }
