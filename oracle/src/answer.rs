@@ -7,8 +7,8 @@ use std::fmt;
 /// * check: V, T and the number of loops;
 /// * expression's chart, or an expression of a chart: its length in bytes, 0, 0;
 /// * removal of a loop, or of several together ("done"): 0, 0, 0;
-/// * follower: the word (`TAKEN` or `NOT_POSSIBLE`), 1 where the end is in the
-///   set, the number of different actions offered;
+/// * follower: the word (`TAKEN`, `NOT_POSSIBLE` or `SPOILT`), 1 where the end is
+///   in the set, the number of different actions offered; 0, 0 after `SPOILT`;
 /// * shortest way: the number of its events, 0, 0.
 #[derive(Clone, Copy, PartialEq, Eq, PartialOrd, Ord, Hash, Debug)]
 #[repr(C)]
@@ -21,8 +21,10 @@ pub struct Answer {
 
 /// The follower's word for an event with a target.
 pub const TAKEN: u64 = 1;
-/// The follower's word for an event without one.
+/// The follower's word for an event without one, which spoils the run.
 pub const NOT_POSSIBLE: u64 = 0;
+/// The follower's word for every event after that, until a restart.
+pub const SPOILT: u64 = 2;
 
 impl Answer {
     pub const fn new(n: u64, p: u64, q: u64, r: u64) -> Answer {

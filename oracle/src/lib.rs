@@ -12,4 +12,4 @@ pub mod fast;
 pub mod gen;
 pub mod plain;
 
-pub use answer::{Answer, NOT_POSSIBLE, TAKEN};
+pub use answer::{Answer, NOT_POSSIBLE, SPOILT, TAKEN};

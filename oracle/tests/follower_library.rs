@@ -7,7 +7,7 @@ use common::in_a_stack;
 use followers::Follower;
 use oracle::gen::lists::{self, Call};
 use oracle::gen::{worst, Rng};
-use oracle::{NOT_POSSIBLE, TAKEN};
+use oracle::{NOT_POSSIBLE, SPOILT, TAKEN};
 use std::collections::BTreeSet;
 
 const LIBRARY: Follower = Follower {
@@ -18,8 +18,10 @@ const LIBRARY: Follower = Follower {
 
 tests_of! { followers:
     lists_against_the_rules(LIBRARY, 40_000_000);
+    spoilt_until_a_restart(LIBRARY, 40_500_000);
     any_bytes(LIBRARY, 41_000_000);
     all_of_a_small_chart(LIBRARY);
+    order_of_refusals(LIBRARY);
     at_the_limits(LIBRARY);
     starred_run(LIBRARY);
 }
@@ -30,7 +32,7 @@ fn in_a_stack_of_32_kib() {
     for (_, yard) in worst::all() {
         let list = lists::events(&mut Rng::new(7), &yard, 100);
         seen.extend(in_a_stack(32, move || {
-            let mut state = [0; 16];
+            let mut state = [0; 17];
             let calls = [Call::Restart].into_iter().chain(list);
             let answers = calls.map(|call| LIBRARY.answer(call, &yard.chart, &mut state));
             answers
@@ -38,5 +40,6 @@ fn in_a_stack_of_32_kib() {
                 .collect::<Vec<_>>()
         }));
     }
-    assert!(seen.into_iter().eq([(0, NOT_POSSIBLE), (0, TAKEN)]));
+    let words = [NOT_POSSIBLE, TAKEN, SPOILT];
+    assert!(seen.into_iter().eq(words.map(|word| (0, word))));
 }

@@ -176,11 +176,17 @@ fn followed(file: &[u8], call: Call, state: &mut [u8]) -> Answer {
     followers::Trial::of(library).call(call, &yard(file).chart, state, &"the page")
 }
 
-/// The numbers of the last call; where there is none, the line for the changed file.
-fn answered(lines: &[String]) -> String {
+/// What an example's lines make of the file and of the follower's state, and what the last call answers.
+struct Left {
+    file: Vec<u8>,
+    state: Vec<u8>,
+    last: Option<Answer>,
+}
+
+fn left_by(lines: &[String]) -> Left {
     let mut file = of_the_repository(FILE);
     let mut standing = vec![1; yard(&file).labelling.len()];
-    let mut state = vec![0; 16];
+    let mut state = vec![0; 17];
     let mut last = None;
     for line in lines {
         assert!(!last.is_some_and(|answer: Answer| answer.is_refusal()));
@@ -200,6 +206,12 @@ fn answered(lines: &[String]) -> String {
             _ => change(&mut file, line),
         }
     }
+    Left { file, state, last }
+}
+
+/// The numbers of the last call; where there is none, the line for the changed file.
+fn answered(lines: &[String]) -> String {
+    let Left { file, last, .. } = left_by(lines);
     if let Some(Answer { n, p, q, r }) = last {
         return format!("{n} {p} {q} {r}");
     }
@@ -288,7 +300,7 @@ fn last_is(example: &Example, call: &str) -> bool {
     last.is_some_and(|line| line.starts_with(call))
 }
 
-/// 53 for an empty set, for a vertex, and for the number of bytes at an event and at a restart.
+/// 53 for an empty set, for a vertex, for a mark, and for the number of bytes at an event and at a restart.
 #[test]
 fn each_cause_of_53_has_an_example() {
     let changed = |e: &Example, how| {
@@ -300,7 +312,9 @@ fn each_cause_of_53_has_an_example() {
     };
     let long = |e: &Example| changed(e, "cut") || changed(e, "append");
     assert!(examples_of(53).any(|e| !changed(&e, "")));
-    assert!(examples_of(53).any(|e| changed(&e, "byte")));
+    let other_mark = |e: &Example| changed(e, "byte 16:");
+    assert!(examples_of(53).any(|e| changed(&e, "byte") && !other_mark(&e)));
+    assert!(examples_of(53).any(|e| other_mark(&e)));
     for call in ["event", "restart"] {
         assert!(
             examples_of(53).any(|e| long(&e) && last_is(&e, call)),
@@ -314,6 +328,19 @@ fn each_cause_of_53_has_an_example() {
 fn each_call_that_writes_has_an_example_of_54() {
     for call in ["lend", "way", "expression"] {
         assert!(examples_of(54).any(|e| last_is(&e, call)), "{call}");
+    }
+}
+
+/// 55 for a set that leads nowhere, and for a spoilt run, with the end in its set and without it.
+#[test]
+fn each_cause_of_55_has_an_example() {
+    let spoilt_and_ended = |e: Example| {
+        let state = left_by(&e.changes).state;
+        (state[16] == 1, state[0] & 1 == 1)
+    };
+    let causes: Vec<(bool, bool)> = examples_of(55).map(spoilt_and_ended).collect();
+    for cause in [(false, false), (true, false), (true, true)] {
+        assert!(causes.contains(&cause), "spoilt, ended: {cause:?}");
     }
 }
 

@@ -2,16 +2,19 @@
 //! lists of events.
 #[macro_use]
 mod common;
+mod followers;
 mod ways;
 use common::{chart, files};
+use followers::FAST;
 use oracle::fast::shortest_way;
+use oracle::gen::lists::{state_with, State};
 use oracle::gen::Rng;
-use oracle::plain::State;
 use oracle::{plain, Answer};
 
 tests_of! { ways:
     random_charts(shortest_way, 50_000_000);
     accepted_files(shortest_way, 51_000_000);
+    along_runs(shortest_way, FAST, 51_500_000);
     any_bytes(shortest_way, 52_000_000);
     all_small_charts(shortest_way);
     all_states_of_a_small_chart(shortest_way);
@@ -33,10 +36,12 @@ fn lists(actions: &[u8], length: usize) -> Vec<Vec<u8>> {
     lists
 }
 
-/// Whether the end is in the set after these events.
-fn ends(chart: &[u8], state: State, list: &[u8]) -> bool {
-    let after = |state, event: &u8| plain::event(chart, state, *event).1;
-    list.iter().fold(state, after)[0] & 1 == 1
+/// Whether the end is in the set after these events, and the run not spoilt.
+fn ends(chart: &[u8], mut state: State, list: &[u8]) -> bool {
+    for event in list {
+        plain::event_lent(chart, &mut state, *event);
+    }
+    state[0] & 1 == 1 && state[16] == 0
 }
 
 /// A few transitions among four vertices, seldom by more than one towards the
@@ -64,8 +69,8 @@ fn plain_is_the_first_of_all_lists() {
     for seed in 0..files(2_000) {
         let mut rng = Rng::new(seed);
         let chart = tiny_chart(&mut rng);
-        let set: u128 = rng.pick(&[1, 2, 4, 6, 8, 8, 10, 12, 14, 15]);
-        let state = set.to_le_bytes();
+        let set = rng.pick(&[1, 2, 4, 6, 8, 8, 10, 12, 14, 15]);
+        let state = state_with(set, rng.percent(10).into());
         let mut out = [0; 10];
         let answer = plain::shortest_way(&chart, &state, &mut out);
         match all.iter().find(|list| ends(&chart, state, list)) {

@@ -1,38 +1,68 @@
 //! The follower.
 use super::chart::Chart;
-use super::refused;
 use super::sets::{below, bit, lowest, Vertices, MOST_VERTICES};
 use super::table::Table;
-use crate::{Answer, NOT_POSSIBLE, TAKEN};
+use super::{refused, Refusal};
+use crate::{Answer, NOT_POSSIBLE, SPOILT, TAKEN};
 
-/// The start alone.
-pub fn restart(chart: &[u8]) -> (Answer, [u8; 16]) {
+/// The set's bytes, and the mark.
+type State = [u8; 17];
+
+fn state_of(set: Vertices, mark: u8) -> State {
+    let mut state = [mark; 17];
+    state[..16].copy_from_slice(&set.to_le_bytes());
+    state
+}
+
+/// The set of a state, and whether it is spoilt; 53, also for another length.
+#[inline]
+pub(super) fn set_of(state: &[u8], vertices: usize) -> Result<(Vertices, bool), Refusal> {
+    let Some((set, &[mark @ 0..=1])) = state.split_first_chunk() else {
+        return Err(refused(53, 0, 0, 0));
+    };
+    let set = Vertices::from_le_bytes(*set);
+    if set == 0 || set & !below(vertices) != 0 {
+        return Err(refused(53, 0, 0, 0));
+    }
+    Ok((set, mark == 1))
+}
+
+/// The start alone; a refusal hands back the empty set, unspoilt.
+pub fn restart(chart: &[u8]) -> (Answer, State) {
     match Chart::read(chart, &mut Table::of(0)) {
         Ok(chart) => {
             let set = bit(chart.start);
-            (said(&chart, TAKEN, set), set.to_le_bytes())
+            (said(&chart, TAKEN, set), state_of(set, 0))
         }
-        Err(refusal) => (refusal, [0; 16]),
+        Err(refusal) => (refusal, [0; 17]),
     }
 }
 
-/// An event; a refusal hands the set back as it came.
-pub fn event(chart: &[u8], state: [u8; 16], event: u8) -> (Answer, [u8; 16]) {
+/// An event; a refusal hands the state back as it came.
+pub fn event(chart: &[u8], mut state: State, event: u8) -> (Answer, State) {
+    let answer = event_lent(chart, &mut state, event);
+    (answer, state)
+}
+
+/// An event on a lent state; a refusal leaves it.
+pub fn event_lent(chart: &[u8], state: &mut [u8], action: u8) -> Answer {
+    followed(chart, state, action).unwrap_or_else(|refusal| refusal)
+}
+
+fn followed(chart: &[u8], state: &mut [u8], action: u8) -> Result<Answer, Refusal> {
     let mut rows = Table::of(0);
-    let chart = match Chart::read(chart, &mut rows) {
-        Ok(chart) => chart,
-        Err(refusal) => return (refusal, state),
-    };
-    let set = Vertices::from_le_bytes(state);
-    if set == 0 || set & !below(chart.vertices) != 0 {
-        return (refused(53, 0, 0, 0), state);
+    let chart = Chart::read(chart, &mut rows)?;
+    let (set, spoilt) = set_of(state, chart.vertices)?;
+    if spoilt {
+        return Ok(Answer::fine(SPOILT, 0, 0));
     }
-    let targets = targets(&chart, set, event);
+    let targets = targets(&chart, set, action);
     if targets == 0 {
-        (said(&chart, NOT_POSSIBLE, set), state)
-    } else {
-        (said(&chart, TAKEN, targets), targets.to_le_bytes())
+        state[16] = 1;
+        return Ok(said(&chart, NOT_POSSIBLE, set));
     }
+    state.copy_from_slice(&state_of(targets, 0));
+    Ok(said(&chart, TAKEN, targets))
 }
 
 /// All that the members of a set lead to by an action.
@@ -74,7 +104,7 @@ fn said(chart: &Chart, word: u64, set: Vertices) -> Answer {
 /// Restart on a lent state; a refusal leaves it.
 pub fn restart_lent(chart: &[u8], state: &mut [u8]) -> Answer {
     let (answer, after) = restart(chart);
-    match <&mut [u8; 16]>::try_from(state) {
+    match <&mut State>::try_from(state) {
         _ if answer.is_refusal() => answer,
         Ok(state) => {
             *state = after;
@@ -82,17 +112,4 @@ pub fn restart_lent(chart: &[u8], state: &mut [u8]) -> Answer {
         }
         Err(_) => refused(53, 0, 0, 0),
     }
-}
-
-/// An event on a lent state; a refusal leaves it.
-pub fn event_lent(chart: &[u8], state: &mut [u8], action: u8) -> Answer {
-    let Ok(state) = <&mut [u8; 16]>::try_from(state) else {
-        // Wrong length: only 20 and 21 come before 53.
-        return Chart::read(chart, &mut Table::of(0))
-            .err()
-            .unwrap_or_else(|| refused(53, 0, 0, 0));
-    };
-    let (answer, after) = event(chart, *state, action);
-    *state = after;
-    answer
 }

@@ -6,7 +6,8 @@
 //! lowest action. So each transition is read once at most, and none after the
 //! group that leads to the end.
 use super::chart::Chart;
-use super::sets::{below, lowest, Vertices, MOST_VERTICES};
+use super::follower::set_of;
+use super::sets::{lowest, Vertices, MOST_VERTICES};
 use super::table::Table;
 use super::{refused, Refusal};
 use crate::Answer;
@@ -19,10 +20,9 @@ pub fn shortest_way(chart: &[u8], state: &[u8], out: &mut [u8]) -> Answer {
 fn written(chart: &[u8], state: &[u8], out: &mut [u8]) -> Result<Answer, Refusal> {
     let mut rows = Table::of(0);
     let chart = Chart::read(chart, &mut rows)?;
-    // A state of another length counts as one without members.
-    let set = <[u8; 16]>::try_from(state).map_or(0, Vertices::from_le_bytes);
-    if set == 0 || set & !below(chart.vertices) != 0 {
-        return Err(refused(53, 0, 0, 0));
+    let (set, spoilt) = set_of(state, chart.vertices)?;
+    if spoilt {
+        return Err(refused(55, 0, 0, 0));
     }
     if set & 1 != 0 {
         return Ok(Answer::fine(0, 0, 0));

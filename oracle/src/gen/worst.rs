@@ -3,7 +3,7 @@
 //! expressions of charts at the limits. All files are accepted.
 use super::charts::chart_of;
 use super::expressions::{self, Shape};
-use super::lists::Call;
+use super::lists::{state_with, Call, State};
 use super::relations;
 use super::rng::Rng;
 use super::Yard;
@@ -594,30 +594,38 @@ pub fn together_calls() -> Vec<(&'static str, TogetherCall)> {
 #[derive(Clone, Debug)]
 pub struct FollowerCall {
     pub chart: Vec<u8>,
-    pub state: [u8; 16],
+    pub state: State,
     pub call: Call,
 }
 
-/// Calls over charts of 128 vertices and 8,192 transitions, each with its name.
-/// A small set has one vertex, a full one all of them. In the dense chart each
-/// vertex leads to all lower ones by action 1, the lowest to all; action 3 is
-/// that of one transition. Of many: each vertex leads to itself by 64 actions.
+/// Calls over charts of 128 vertices and 8,192 transitions, and over the
+/// weighbridge's, each with its name. A small set has one vertex, a full one all
+/// of them. In the dense chart each vertex leads to all lower ones by action 1,
+/// the lowest to all; action 3 is that of one transition. Of many: each vertex
+/// leads to itself by 64 actions. What is not possible spoils the run; a state
+/// that is spoilt has an event that its set could take.
 pub fn follower_calls() -> Vec<(&'static str, FollowerCall)> {
     let dense = dense(step(127, 3, 1), 0).chart;
     let of_many = of_thousands(64).chart;
+    let small = weighbridge();
     let full = u128::MAX;
+    let event = Call::Event;
     [
-        ("restart", &dense, 0, Call::Restart),
-        ("taken small", &of_many, 1 << 127, Call::Event(64)),
-        ("taken small to full", &dense, 1 << 1, Call::Event(1)),
-        ("taken full", &dense, full, Call::Event(1)),
-        ("taken full to small", &dense, full, Call::Event(3)),
-        ("taken full of many", &of_many, full, Call::Event(64)),
-        ("not possible small", &of_many, 1 << 127, Call::Event(65)),
-        ("not possible full", &of_many, full, Call::Event(65)),
+        ("restart", &dense, 0, 0, Call::Restart),
+        ("taken small", &of_many, 1 << 127, 0, event(64)),
+        ("taken small to full", &dense, 1 << 1, 0, event(1)),
+        ("taken full", &dense, full, 0, event(1)),
+        ("taken full to small", &dense, full, 0, event(3)),
+        ("taken full of many", &of_many, full, 0, event(64)),
+        ("not possible small", &of_many, 1 << 127, 0, event(65)),
+        ("not possible full", &of_many, full, 0, event(65)),
+        ("spoilt full", &of_many, full, 1, event(64)),
+        ("weighbridge taken", &small, 1 << 2, 0, event(4)),
+        ("weighbridge spoiling", &small, 1 << 2, 0, event(5)),
+        ("weighbridge spoilt", &small, 1 << 2, 1, event(4)),
     ]
-    .map(|(name, chart, set, call)| {
-        let (chart, state) = (chart.clone(), set.to_le_bytes());
+    .map(|(name, chart, set, mark, call)| {
+        let (chart, state) = (chart.clone(), state_with(set, mark));
         (name, FollowerCall { chart, state, call })
     })
     .to_vec()
@@ -627,7 +635,7 @@ pub fn follower_calls() -> Vec<(&'static str, FollowerCall)> {
 #[derive(Clone, Debug)]
 pub struct WayCall {
     pub chart: Vec<u8>,
-    pub state: [u8; 16],
+    pub state: State,
 }
 
 /// From each of 127 vertices one step leads to the next lower one, by its own
@@ -676,19 +684,21 @@ fn weighbridge() -> Vec<u8> {
 
 /// Ways to the end over charts of 128 vertices and over a small one, each with
 /// its name. All but the line and the small one have 8,192 transitions. The
-/// dense chart is that of the follower's calls, and has no way to the end.
+/// dense chart is that of the follower's calls, and has no way to the end; the
+/// spoilt state has none, whose set has the longest.
 pub fn way_calls() -> Vec<(&'static str, WayCall)> {
     let top_layer = u128::MAX << 113;
     [
-        ("longest", line(), 1 << 127),
-        ("longest of many", line_with_rounds(), 1 << 127),
-        ("nearest of many", line_with_rounds(), 1 << 1),
-        ("wide layers", layers_of_16(), top_layer),
-        ("small", weighbridge(), 1 << 2),
-        ("refused 55", dense(step(127, 3, 1), 0).chart, 1 << 127),
+        ("longest", line(), 1 << 127, 0),
+        ("longest of many", line_with_rounds(), 1 << 127, 0),
+        ("nearest of many", line_with_rounds(), 1 << 1, 0),
+        ("wide layers", layers_of_16(), top_layer, 0),
+        ("small", weighbridge(), 1 << 2, 0),
+        ("refused 55", dense(step(127, 3, 1), 0).chart, 1 << 127, 0),
+        ("refused 55 spoilt", line_with_rounds(), 1 << 127, 1),
     ]
-    .map(|(name, chart, set)| {
-        let state = set.to_le_bytes();
+    .map(|(name, chart, set, mark)| {
+        let state = state_with(set, mark);
         (name, WayCall { chart, state })
     })
     .to_vec()

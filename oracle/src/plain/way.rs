@@ -7,7 +7,8 @@ use std::collections::{BTreeSet, VecDeque};
 
 /// Writes the shortest list of events after which the end is in the set, among
 /// equals the one lowest by its first differing action, to the beginning of
-/// lent bytes. Refusals 20, 21, 53, 55, 54; none changes a byte.
+/// lent bytes. A spoilt state reaches nothing, the end in its own set neither.
+/// Refusals 20, 21, 53, 55, 54; none changes a byte.
 pub fn shortest_way(chart: &[u8], state: &[u8], out: &mut [u8]) -> Answer {
     match way(chart, state) {
         Err(refusal) => refusal,
@@ -24,8 +25,11 @@ pub fn shortest_way(chart: &[u8], state: &[u8], out: &mut [u8]) -> Answer {
 fn way(chart: &[u8], state: &[u8]) -> Result<Vec<u8>, Answer> {
     let chart = Chart::read(chart)?;
     // A state of another length counts as one without members.
-    let state = State::try_from(state).unwrap_or([0; 16]);
-    let first = members(&chart, state)?;
+    let state = State::read(state).unwrap_or(State::EMPTY);
+    let (first, spoilt) = members(&chart, state)?;
+    if spoilt {
+        return Err(NO_WAY);
+    }
     let mut found = BTreeSet::from([first.clone()]);
     let mut lists = VecDeque::from([(first, Vec::new())]);
     while let Some((set, events)) = lists.pop_front() {
@@ -34,11 +38,13 @@ fn way(chart: &[u8], state: &[u8]) -> Result<Vec<u8>, Answer> {
         }
         for event in 0..=255 {
             let after = targets(&chart, &set, event);
-            // An event that isn't possible leaves the set, which has been found.
+            // An event that isn't possible spoils the run.
             if !after.is_empty() && found.insert(after.clone()) {
                 lists.push_back((after, [&events[..], &[event]].concat()));
             }
         }
     }
-    Err(Answer::new(55, 0, 0, 0))
+    Err(NO_WAY)
 }
+
+const NO_WAY: Answer = Answer::new(55, 0, 0, 0);

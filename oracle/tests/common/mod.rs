@@ -1,5 +1,6 @@
 //! What the tests share.
 #![allow(dead_code)]
+use oracle::gen::lists::state_with;
 use oracle::gen::{Rng, Yard};
 use oracle::plain::{Chart, Transition};
 use oracle::{fast, gen, plain, Answer};
@@ -38,6 +39,12 @@ impl<K: Ord + Debug> Seen<K> {
 
     pub fn all(&self) -> u64 {
         self.0.values().sum()
+    }
+
+    /// How often kinds like this were given.
+    pub fn like(&self, kind: impl Fn(&K) -> bool) -> u64 {
+        let such = self.0.iter().filter(|(given, _)| kind(given));
+        such.map(|(_, times)| times).sum()
     }
 
     /// Just these kinds, each so often at least, and so many in all.
@@ -109,7 +116,7 @@ pub fn damage_chart(rng: &mut Rng, chart: &mut Vec<u8>) {
     }
 }
 
-/// Vertex 1 alone, as far as so many bytes go.
+/// Vertex 1 alone, unspoilt, as far as so many bytes go.
 pub fn long_state(length: usize) -> Vec<u8> {
     let mut state = vec![0; length];
     state.iter_mut().take(1).for_each(|byte| *byte = 2);
@@ -117,26 +124,38 @@ pub fn long_state(length: usize) -> Vec<u8> {
 }
 
 /// Vertices below a chart's V, mostly, and now and then all of them, none, or
-/// bytes as they come; or another length.
+/// any; any mark, and now and then another length.
 pub fn some_state(rng: &mut Rng, chart: &[u8]) -> Vec<u8> {
-    let vertices: usize = chart.first().copied().unwrap_or(0).max(2).into();
-    let mut state = vec![0; 16];
-    match rng.below(20) {
-        0 => {}
-        1 => return long_state(rng.pick(&[0, 1, 15, 17, 32])),
-        2 => state.fill_with(|| rng.word() as u8),
-        3 => (0..vertices.min(128)).for_each(|v| state[v / 8] |= 1 << (v % 8)),
-        _ => {
-            for _ in 0..rng.between(1, 4) {
-                // Seldom V itself.
-                let count = vertices + rng.percent(5) as usize;
-                let v = rng.below(count).min(127);
-                state[v / 8] |= 1 << (v % 8);
-            }
-        }
+    let vertices: usize = chart.first().copied().unwrap_or(0).clamp(2, 128).into();
+    let set = match rng.below(20) {
+        0 => 0,
+        1 => (rng.word() as u128) << 64 | rng.word() as u128,
+        2 => u128::MAX >> (128 - vertices),
+        _ => (0..rng.between(1, 4)).fold(0, |set, _| {
+            // Seldom V itself.
+            let count = vertices + rng.percent(5) as usize;
+            set | 1 << rng.below(count).min(127)
+        }),
+    };
+    let mut state = state_with(set, some_mark(rng)).to_vec();
+    if rng.percent(5) {
+        state.resize(rng.pick(&[0, 1, 15, 16, 18, 32]), 0);
     }
     state
 }
+
+/// 0 mostly, 1 now and then, seldom another.
+fn some_mark(rng: &mut Rng) -> u8 {
+    match rng.below(20) {
+        0 => rng.pick(&[2, 255]),
+        1 => rng.word() as u8,
+        2..=5 => 1,
+        _ => 0,
+    }
+}
+
+/// Marks that pass, and some that don't.
+pub const MARKS: [u8; 4] = [0, 1, 2, 255];
 
 /// What lent bytes hold before a call.
 pub fn pattern(length: usize) -> Vec<u8> {

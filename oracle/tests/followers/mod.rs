@@ -1,11 +1,11 @@
 //! Some follower held against the plain one, on lent states, and lists of calls
 //! over accepted files against the published rules' follower.
 #![allow(dead_code)]
-use crate::common::{chart, damage_chart, files, g, long_state, some_state, Seen};
-use oracle::gen::lists::{events, Call};
+use crate::common::{chart, damage_chart, files, g, long_state, some_state, Seen, MARKS};
+use oracle::gen::lists::{events, offered, state_with, Call};
 use oracle::gen::{self, Rng};
 use oracle::plain::{read_nodes, RulesFollower};
-use oracle::{fast, plain, Answer, NOT_POSSIBLE, TAKEN};
+use oracle::{fast, plain, Answer, NOT_POSSIBLE, SPOILT, TAKEN};
 use std::fmt::Display;
 
 /// The calls of a follower on lent states, and the one that writes an
@@ -102,10 +102,9 @@ impl Trial {
             gen::hex(state),
             gen::hex(&other)
         );
-        let taken = plain.n == 0 && plain.p == TAKEN;
         assert!(
-            taken || *state == before[..],
-            "{origin}, {call:?}: {plain:?} changed the state"
+            allows(call, plain, &before, state),
+            "{origin}, {call:?}: {plain:?} made {before:?} into {state:?}"
         );
         let seen = match call {
             Call::Restart => &mut self.restarts,
@@ -122,10 +121,36 @@ impl Trial {
         let of_events = all.saturating_sub(self.restarts.all());
         self.events.are(events, each, of_events);
     }
+
+    /// Half of the answers to events that aren't refused are "taken", and each
+    /// of the other words is one of twenty at least.
+    fn saw_each_word_often(&self) {
+        let times = |word| self.events.like(|kind| kind.n == 0 && kind.p == word);
+        let [taken, not_possible, spoilt] = [TAKEN, NOT_POSSIBLE, SPOILT].map(times);
+        let all = taken + not_possible + spoilt;
+        assert!(
+            2 * taken >= all && 20 * not_possible >= all && 20 * spoilt >= all,
+            "{taken} {not_possible} {spoilt}"
+        );
+    }
 }
 
-/// Taken or not possible, with and without the end, a deadlock or an offer.
-const FOLLOWED: [Answer; 8] = [
+/// Whether a state may come of another by this answer. Only a restart takes the
+/// mark away, and only "not possible" puts it there, with the set as it was.
+fn allows(call: Call, answer: Answer, before: &[u8], after: &[u8]) -> bool {
+    let marks = || (before[16], after[16]);
+    match (answer.n, answer.p) {
+        (0, TAKEN) if call == Call::Restart => after[16] == 0,
+        (0, TAKEN) => marks() == (0, 0),
+        (0, NOT_POSSIBLE) => marks() == (0, 1) && before[..16] == after[..16],
+        (0, SPOILT) => marks() == (1, 1) && before == after,
+        _ => before == after,
+    }
+}
+
+/// Taken or not possible, with and without the end, a deadlock or an offer; or
+/// spoilt.
+const FOLLOWED: [Answer; 9] = [
     Answer::fine(NOT_POSSIBLE, 0, 0),
     Answer::fine(NOT_POSSIBLE, 0, 1),
     Answer::fine(NOT_POSSIBLE, 1, 0),
@@ -134,14 +159,18 @@ const FOLLOWED: [Answer; 8] = [
     Answer::fine(TAKEN, 0, 1),
     Answer::fine(TAKEN, 1, 0),
     Answer::fine(TAKEN, 1, 1),
+    SPOILT_ANSWER,
 ];
+
+const SPOILT_ANSWER: Answer = Answer::fine(SPOILT, 0, 0);
 
 /// The start is never the end.
 const RESTARTED: [Answer; 2] = [Answer::fine(TAKEN, 0, 0), Answer::fine(TAKEN, 0, 1)];
 
 const REFUSED: [Answer; 3] = [refusal(20), refusal(21), refusal(53)];
 
-/// The panel's chart, the expression's chart and the rules: one list of answers.
+/// The panel's chart, the expression's chart and the rules: one list of answers,
+/// and one mark after each.
 pub fn lists_against_the_rules(follower: Follower, first: u64) {
     let mut trial = Trial::of(follower);
     for seed in first..first + files(1_000) {
@@ -150,7 +179,7 @@ pub fn lists_against_the_rules(follower: Follower, first: u64) {
         let nodes = read_nodes(&yard.expression).expect("an accepted file's expression");
         let mut rules = RulesFollower::new(&nodes);
         // Whatever is there before the first restart.
-        let (mut panel, mut expression) = ([0xFF; 16], [0; 16]);
+        let (mut panel, mut expression) = ([0xFF; 17], [0; 17]);
         let mut list = events(&mut Rng::new(seed), &yard, 40);
         list.insert(0, Call::Restart);
         for (at, call) in list.into_iter().enumerate() {
@@ -159,14 +188,65 @@ pub fn lists_against_the_rules(follower: Follower, first: u64) {
                 trial.call(call, &own, &mut expression, &seed),
                 rules_answer(&mut rules, call),
             ];
+            let marks = [panel[16], expression[16], rules.is_spoilt().into()];
             assert!(
-                answers.iter().all(|answer| *answer == answers[0]),
-                "seed {seed}, {call:?} at {at}: {answers:?}\nfile {}",
+                answers == [answers[0]; 3] && marks == [marks[0]; 3],
+                "seed {seed}, {call:?} at {at}: {answers:?}, marks {marks:?}\nfile {}",
                 gen::hex(&yard.file())
             );
         }
     }
     trial.saw(&RESTARTED, &FOLLOWED, 20, 50_000);
+    trial.saw_each_word_often();
+}
+
+/// Each list of six calls over a small chart, and long ones over accepted files'.
+pub fn spoilt_until_a_restart(follower: Follower, first: u64) {
+    let mut trial = Trial::of(follower);
+    let small = chart(3, 1, &[(1, 1, 1), (1, 1, 2), (1, 2, 0), (2, 3, 0)]).bytes();
+    let calls = [1, 2, 3].map(Call::Event).into_iter();
+    let calls: Vec<Call> = calls.chain([Call::Restart]).collect();
+    for list in all_lists(&calls, 6) {
+        run_whole(&mut trial, &small, &list);
+    }
+    for seed in first..first + files(200) {
+        let yard = gen::accepted(seed);
+        let list = events(&mut Rng::new(seed), &yard, 100);
+        run_whole(&mut trial, &yard.chart, &list);
+    }
+    trial.saw(&RESTARTED, &FOLLOWED, 20, 40_000);
+}
+
+/// Lists of so many of these calls.
+fn all_lists(calls: &[Call], length: usize) -> Vec<Vec<Call>> {
+    let mut lists = vec![Vec::new()];
+    for _ in 0..length {
+        let longer = |list: Vec<Call>| calls.iter().map(move |c| [&list[..], &[*c]].concat());
+        lists = lists.into_iter().flat_map(longer).collect();
+    }
+    lists
+}
+
+/// Over a whole list from a fresh start, "spoilt" is answered at just the events
+/// that come after one that is not possible with no restart between them.
+fn run_whole(trial: &mut Trial, chart: &[u8], list: &[Call]) {
+    let mut state = [0; 17];
+    trial.call(Call::Restart, chart, &mut state, &"a fresh start");
+    let mut answers: Vec<Answer> = Vec::new();
+    for (at, call) in list.iter().enumerate() {
+        let answer = trial.call(*call, chart, &mut state, &"a whole list");
+        let restarted = list[..at].iter().rposition(|call| *call == Call::Restart);
+        let since = restarted.map_or(0, |restart| restart + 1);
+        let is_wrong = |answer: &Answer| answer.p == NOT_POSSIBLE;
+        let spoilt = *call != Call::Restart && answers[since..].iter().any(is_wrong);
+        assert!(
+            answer.n == 0 && (answer == SPOILT_ANSWER) == spoilt,
+            "{answer:?} at {at} of {list:?}\nchart {}",
+            gen::hex(chart)
+        );
+        assert_eq!(answer.p == SPOILT, spoilt, "no other answer has the word");
+        answers.push(answer);
+    }
 }
 
 /// Such a list tells an action that was changed in the panel's chart.
@@ -175,22 +255,17 @@ pub fn another_action_is_found_out(follower: Follower, first: u64) {
     let mut differing = 0;
     for seed in first..first + files(200) {
         let mut yard = gen::accepted(seed);
-        let actions: Vec<u8> = yard.chart[4..].chunks(4).map(|t| t[1]).collect();
-        if actions.is_empty() {
+        if yard.labelling.is_empty() {
             continue;
         }
+        let mut list = events(&mut Rng::new(seed), &yard, 60);
+        list.insert(0, Call::Restart);
         let last = yard.chart.len() - 4;
         yard.chart[last + 1] = 254;
         let nodes = read_nodes(&yard.expression).expect("an accepted file's expression");
         let mut rules = RulesFollower::new(&nodes);
-        let mut state = [0; 16];
-        let mut rng = Rng::new(seed);
-        differing += (0..60).any(|at| {
-            let call = if at == 0 || rng.percent(10) {
-                Call::Restart
-            } else {
-                Call::Event(rng.pick(&actions))
-            };
+        let mut state = [0; 17];
+        differing += list.into_iter().any(|call| {
             let answer = trial.call(call, &yard.chart, &mut state, &seed);
             answer != rules_answer(&mut rules, call)
         }) as u64;
@@ -207,32 +282,53 @@ pub fn any_bytes(follower: Follower, first: u64) {
         if chart.len() > 4_000 {
             continue;
         }
-        let mut actions: Vec<u8> = chart[4..].chunks(4).map(|t| t[1]).collect();
-        actions.extend([0, rng.word() as u8]);
         if rng.percent(25) {
             damage_chart(&mut rng, &mut chart);
         }
         let mut state = some_state(&mut rng, &chart);
-        for _ in 0..4 {
-            let call = Call::Event(rng.pick(&actions));
+        for at in 0..6 {
+            let call = match at {
+                4 => Call::Restart,
+                _ => some_event(&mut rng, &chart, &state),
+            };
             trial.call(call, &chart, &mut state, &seed);
         }
-        trial.call(Call::Restart, &chart, &mut state, &seed);
     }
     let restarts = [&RESTARTED[..], &REFUSED].concat();
     let events = [&FOLLOWED[..], &REFUSED].concat();
     trial.saw(&restarts, &events, 20, 20_000);
+    trial.saw_each_word_often();
 }
 
-/// Each set of eight vertices over a chart of four, each single vertex of 128,
-/// and each length of a state up to 40, with all its actions and some others.
+/// Mostly one that leaves a vertex of the set, else any of the chart, or any.
+fn some_event(rng: &mut Rng, chart: &[u8], state: &[u8]) -> Call {
+    let set = state
+        .first_chunk()
+        .map_or(0, |set| u128::from_le_bytes(*set));
+    let mut actions = offered(chart, set);
+    if actions.is_empty() || rng.percent(15) {
+        actions = offered(chart, u128::MAX);
+        actions.extend([0, rng.word() as u8]);
+    }
+    Call::Event(rng.pick(&actions))
+}
+
+/// Each set of eight vertices over a chart of four with some marks, each single
+/// vertex of 128, spoilt or not, each mark, and each length of a state up to 40,
+/// with all its actions and some others.
 pub fn all_of_a_small_chart(follower: Follower) {
     let mut trial = Trial::of(follower);
     let steps = [(1, 1, 1), (1, 1, 2), (1, 2, 0), (2, 1, 0), (2, 255, 3)];
     let chart = chart(4, 1, &steps).bytes();
     let mut states: Vec<Vec<u8>> = (0..40).map(long_state).collect();
-    states.extend((0..=255).map(|set| (set as u128).to_le_bytes().to_vec()));
-    states.extend((0..128).map(|v| (1u128 << v).to_le_bytes().to_vec()));
+    let mut marked = |set, mark| states.push(state_with(set, mark).to_vec());
+    for mark in MARKS {
+        (0..=255).for_each(|set| marked(set, mark));
+    }
+    for mark in [0, 1] {
+        (0..128).for_each(|v| marked(1 << v, mark));
+    }
+    (0..=255).for_each(|mark| marked(1 << 1, mark));
     for state in states {
         let events = [0, 1, 2, 3, 254, 255].map(Call::Event);
         for call in events.into_iter().chain([Call::Restart]) {
@@ -240,34 +336,87 @@ pub fn all_of_a_small_chart(follower: Follower) {
         }
     }
     let events = [&FOLLOWED[..], &[refusal(53)]].concat();
-    trial.saw(&[RESTARTED[1], refusal(53)], &events, 2, 424 * 7);
+    trial.saw(&[RESTARTED[1], refusal(53)], &events, 2, 1_576 * 7);
 }
 
-/// Document 01's list, over both charts.
+/// Document 01's list, over both charts; then an event more, which is spoilt, and
+/// from a restart on the list again.
 pub fn starred_run(follower: Follower) {
     let mut trial = Trial::of(follower);
     let own = follower.expression_chart(&g().expression);
     for chart in [g().chart, own] {
-        let mut state = [0; 16];
-        for (call, answer) in [
-            (Call::Restart, Answer::fine(TAKEN, 0, 2)),
-            (Call::Event(1), Answer::fine(TAKEN, 0, 2)),
-            (Call::Event(2), Answer::fine(TAKEN, 1, 0)),
-            (Call::Event(1), Answer::fine(NOT_POSSIBLE, 1, 0)),
-        ] {
-            assert_eq!(trial.call(call, &chart, &mut state, &"the list"), answer);
+        let mut state = [0; 17];
+        for _ in 0..2 {
+            for (call, answer) in [
+                (Call::Restart, Answer::fine(TAKEN, 0, 2)),
+                (Call::Event(1), Answer::fine(TAKEN, 0, 2)),
+                (Call::Event(2), Answer::fine(TAKEN, 1, 0)),
+                (Call::Event(1), Answer::fine(NOT_POSSIBLE, 1, 0)),
+                (Call::Event(1), Answer::fine(SPOILT, 0, 0)),
+            ] {
+                assert_eq!(trial.call(call, &chart, &mut state, &"the list"), answer);
+            }
+            assert_eq!(state, state_with(1, 1), "the end alone, spoilt");
         }
-        assert_eq!(state, 1u128.to_le_bytes(), "the end alone");
     }
 }
 
-/// Calls over the largest charts.
+/// States that 53 refuses over a chart of three vertices.
+fn refused_states() -> Vec<Vec<u8>> {
+    let marked = [(0, 0), (0, 1), (0, 2), (2, 2), (2, 255), (8, 0), (9, 1)];
+    let marked = marked.map(|(set, mark)| state_with(set, mark).to_vec());
+    let lengths = [0, 15, 16, 18].map(long_state);
+    [&marked[..], &lengths].concat()
+}
+
+/// 20, 21 and 53 come before "spoilt" and before what an event is; a restart
+/// takes any 17 bytes.
+pub fn order_of_refusals(follower: Follower) {
+    let mut trial = Trial::of(follower);
+    let chart = chart(3, 1, &[(1, 1, 1), (2, 1, 0)]).bytes();
+    let (mut no_chart, mut unordered) = (chart.clone(), chart.clone());
+    no_chart[0] = 129;
+    unordered[8] = 0;
+    let spoilt = state_with(2, 1).to_vec();
+    let calls = [Call::Event(0), Call::Event(1), Call::Restart];
+    for state in [&refused_states()[..], &[spoilt]].concat() {
+        for (body, n, p) in [(&no_chart, 20, 0), (&unordered, 21, 1)] {
+            for call in calls {
+                let answer = trial.call(call, body, &mut state.clone(), &"no chart");
+                assert_eq!(answer, Answer::new(n, p, 0, 0), "{call:?} {state:?}");
+            }
+        }
+    }
+    for mut state in refused_states() {
+        for call in &calls[..2] {
+            let answer = trial.call(*call, &chart, &mut state, &"no state");
+            assert_eq!(answer, refusal(53), "{call:?} {state:?}");
+        }
+        let answer = trial.call(Call::Restart, &chart, &mut state, &"any state");
+        if state.len() == 17 {
+            assert_eq!(answer, Answer::fine(TAKEN, 0, 1));
+            assert_eq!(state, state_with(2, 0));
+        } else {
+            assert_eq!(answer, refusal(53), "{state:?}");
+        }
+    }
+    for set in [1, 2, 4, 7] {
+        for call in &calls[..2] {
+            let mut state = state_with(set, 1);
+            let answer = trial.call(*call, &chart, &mut state, &"spoilt");
+            assert_eq!(answer, SPOILT_ANSWER, "{call:?} {set}");
+        }
+    }
+}
+
+/// Calls over the largest charts, and over the weighbridge's.
 pub fn at_the_limits(follower: Follower) {
     let mut trial = Trial::of(follower);
     for (name, mut made) in gen::worst::follower_calls() {
-        assert_eq!(made.chart[..4], [128, 127, 0, 32], "{name}");
+        let small = name.starts_with("weighbridge");
+        assert_eq!(made.chart[..4] == [128, 127, 0, 32], !small, "{name}");
         trial.call(made.call, &made.chart, &mut made.state, &name);
     }
-    let events = [FOLLOWED[1], FOLLOWED[3], FOLLOWED[5]];
-    trial.saw(&RESTARTED[1..], &events, 1, 8);
+    let events = [FOLLOWED[1], FOLLOWED[3], FOLLOWED[5], SPOILT_ANSWER];
+    trial.saw(&RESTARTED[1..], &events, 1, 12);
 }

@@ -2,11 +2,12 @@
 //! lent bytes of every length that matters. Where there are too many sets for
 //! the plain one, against its definition alone.
 #![allow(dead_code)]
-use crate::common::{chart, damage_chart, files, g, long_state, pattern, some_state, Seen};
+use crate::common::{chart, damage_chart, files, g, long_state, pattern, some_state, Seen, MARKS};
+use crate::followers::Follower;
 use oracle::gen::charts::{renamed, shuffled};
-use oracle::gen::lists::{events, Call};
+use oracle::gen::lists::{events, state_with, Call, State};
 use oracle::gen::{self, Rng};
-use oracle::plain::{self, Chart, State};
+use oracle::plain::{self, Chart};
 use oracle::{Answer, TAKEN};
 use std::fmt::Display;
 
@@ -27,14 +28,22 @@ fn refusal(n: u64, p: usize) -> Found {
     (Answer::new(n, p as u64, 0, 0), Vec::new())
 }
 
-/// A state with these vertices.
+/// An unspoilt state with these vertices.
 fn state_of(vertices: &[usize]) -> State {
-    let set = vertices.iter().fold(0u128, |set, v| set | 1 << v);
-    set.to_le_bytes()
+    state_with(vertices.iter().fold(0, |set, v| set | 1 << v), 0)
+}
+
+fn spoilt(mut state: State) -> State {
+    state[16] = 1;
+    state
+}
+
+fn is_spoilt(state: State) -> bool {
+    state[16] == 1
 }
 
 fn has(state: State, vertex: usize) -> bool {
-    u128::from_le_bytes(state) >> vertex & 1 == 1
+    state[vertex / 8] >> (vertex % 8) & 1 == 1
 }
 
 /// A chart, and for each vertex how many transitions the end is away, where it
@@ -62,8 +71,11 @@ impl Measured {
         Measured { body, chart, away }
     }
 
-    /// How many events a list has at least.
+    /// How many events a list has at least. From a spoilt state there is none.
     fn needed(&self, state: State) -> Option<usize> {
+        if is_spoilt(state) {
+            return None;
+        }
         let members = (0..self.chart.vertices).filter(|v| has(state, *v));
         members.filter_map(|v| self.away[v]).min()
     }
@@ -82,36 +94,38 @@ impl Measured {
         match self.needed(state) {
             None => *answer == refusal(55, 0).0,
             Some(needed) => {
-                let sets = self.sets(state, list);
+                let states = self.states(state, list);
                 *answer == Answer::fine(needed as u64, 0, 0)
-                    && sets.len() == needed + 1
-                    && has(sets[needed], 0)
-                    && !self.has_a_lower(&sets, list)
+                    && states.len() == needed + 1
+                    && has(states[needed], 0)
+                    && !is_spoilt(states[needed])
+                    && !self.has_a_lower(&states, list)
             }
         }
     }
 
-    /// The sets that the follower's events lead to, the first one included;
-    /// none after an event that isn't possible.
-    fn sets(&self, state: State, list: &[u8]) -> Vec<State> {
-        let mut sets = vec![state];
+    /// The states that the follower's events lead to, the first one included;
+    /// none after an event that isn't taken.
+    fn states(&self, mut state: State, list: &[u8]) -> Vec<State> {
+        let mut states = vec![state];
         for event in list {
-            match plain::event(&self.body, sets[sets.len() - 1], *event) {
-                (answer, after) if answer.n == 0 && answer.p == TAKEN => sets.push(after),
-                _ => break,
+            let answer = plain::event_lent(&self.body, &mut state, *event);
+            if (answer.n, answer.p) != (0, TAKEN) {
+                break;
             }
+            states.push(state);
         }
-        sets
+        states
     }
 
     /// A lower event in some place, after which the end is near enough for as
-    /// long a list. It is possible: one that isn't brings nothing nearer.
-    fn has_a_lower(&self, sets: &[State], list: &[u8]) -> bool {
-        let mut places = sets.iter().zip(list).enumerate();
-        places.any(|(at, (set, event))| {
+    /// long a list. It is possible: one that isn't spoils the run.
+    fn has_a_lower(&self, states: &[State], list: &[u8]) -> bool {
+        let mut places = states.iter().zip(list).enumerate();
+        places.any(|(at, (state, event))| {
             let left = list.len() - at;
             let mut lower = self.chart.transitions.iter().filter(|t| t.action < *event);
-            lower.any(|t| has(*set, t.from) && self.away[t.to].is_some_and(|away| away < left))
+            lower.any(|t| has(*state, t.from) && self.away[t.to].is_some_and(|away| away < left))
         })
     }
 }
@@ -179,7 +193,7 @@ impl Trial {
             assert_eq!(other, in_bytes(lent, &found), "{origin}");
         }
         if [0, 55].contains(&found.0.n) {
-            let state = state.try_into().expect("16 bytes");
+            let state = state.try_into().expect("17 bytes");
             Measured::of(chart).hold(state, &found, origin);
         }
         found
@@ -279,15 +293,14 @@ pub fn accepted_files(way: Way, first: u64) {
         let yard = gen::accepted(seed);
         let mut rng = Rng::new(seed);
         let on = Measured::of(&yard.chart);
-        let (_, mut state) = plain::restart(&yard.chart);
-        let mut calls = events(&mut rng, &yard, 4);
-        calls.push(Call::Restart);
+        let mut state = [0; 17];
+        let mut calls = vec![Call::Restart];
+        calls.extend(events(&mut rng, &yard, 4));
         for call in calls {
-            let (_, after) = match call {
-                Call::Restart => plain::restart(&yard.chart),
-                Call::Event(event) => plain::event(&yard.chart, state, event),
+            match call {
+                Call::Restart => plain::restart_lent(&yard.chart, &mut state),
+                Call::Event(event) => plain::event_lent(&yard.chart, &mut state, event),
             };
-            state = after;
             let several = (0..3).map(|_| rng.between(1, on.chart.vertices - 1));
             for state in [state, state_of(&several.collect::<Vec<_>>())] {
                 if is_modest(&on.body) {
@@ -301,6 +314,50 @@ pub fn accepted_files(way: Way, first: u64) {
     }
     assert!(large >= files(500), "{large}");
     trial.seen.are(&[0, 54, 55], 1_000, 20_000);
+}
+
+/// Along lists of calls of a follower: each list that is written leads to the end
+/// by events that are all taken, and where the run is spoilt there is none, until
+/// a restart.
+pub fn along_runs(way: Way, follower: Follower, first: u64) {
+    let mut trial = Trial::of(way);
+    let (mut spoilt_runs, mut with_the_end) = (0, 0);
+    for seed in first..first + files(300) {
+        let yard = gen::accepted(seed);
+        let mut state = [0; 17];
+        let mut calls = vec![Call::Restart];
+        calls.extend(events(&mut Rng::new(seed), &yard, 30));
+        for call in calls {
+            follower.answer(call, &yard.chart, &mut state);
+            let found = trial.run(&yard.chart, &state, ROOM, &seed);
+            if is_spoilt(state) {
+                assert_ne!(call, Call::Restart, "{seed}");
+                assert_eq!(found, refusal(55, 0), "{seed}, spoilt {state:?}");
+                spoilt_runs += 1;
+                with_the_end += has(state, 0) as u64;
+            }
+            let is_way = found.0.n == 0;
+            assert!(
+                !is_way || leads_to_the_end(follower, &yard.chart, state, &found.1),
+                "{seed}, {state:?}: {found:?}"
+            );
+        }
+    }
+    assert!(
+        spoilt_runs > files(1_500) && with_the_end > files(300),
+        "{spoilt_runs} {with_the_end}"
+    );
+    trial.seen.are(&[0, 55], 2_000, 9_000);
+}
+
+/// All these events are taken, and the end is in the set after them, unspoilt.
+fn leads_to_the_end(follower: Follower, chart: &[u8], mut state: State, list: &[u8]) -> bool {
+    let mut events = list.iter();
+    let taken = |event: &u8| {
+        let answer = follower.answer(Call::Event(*event), chart, &mut state);
+        (answer.n, answer.p) == (0, TAKEN)
+    };
+    events.all(taken) && has(state, 0) && !is_spoilt(state)
 }
 
 /// Damaged charts and any states.
@@ -325,7 +382,8 @@ pub fn any_bytes(way: Way, first: u64) {
     trial.seen.are(&[0, 20, 21, 53, 54, 55], 500, 15_000);
 }
 
-/// Two vertices and the end: each chart with two actions, and each set.
+/// Two vertices and the end: each chart with two actions, and each set, spoilt or
+/// not.
 pub fn all_small_charts(way: Way) {
     let mut places = Vec::new();
     for from in [1, 2] {
@@ -338,37 +396,49 @@ pub fn all_small_charts(way: Way) {
         let chosen = (0..places.len()).filter(|i| code >> i & 1 == 1);
         let steps: Vec<_> = chosen.map(|i| places[i]).collect();
         let chart = chart(3, 1, &steps).bytes();
-        for set in 1..8u128 {
-            trial.lengths(&chart, &set.to_le_bytes(), &format!("{steps:?}"));
+        for set in 1..8 {
+            let origin = format!("{steps:?}");
+            trial.lengths(&chart, &state_with(set, 0), &origin);
+            let found = trial.lengths(&chart, &state_with(set, 1), &origin);
+            assert_eq!(found, refusal(55, 0), "{origin}, {set}");
         }
     }
-    trial.seen.are(&[0, 54, 55], 1_000, 4_096 * 7 * 4);
+    trial.seen.are(&[0, 54, 55], 1_000, 4_096 * 7 * 10);
 }
 
-/// Over a chart of four vertices each set of eight, each single vertex of 128,
-/// and each length of a state up to 40.
+/// Over a chart of four vertices each set of eight with some marks, each single
+/// vertex of 128, spoilt or not, each mark, and each length of a state up to 40.
 pub fn all_states_of_a_small_chart(way: Way) {
     let mut trial = Trial::of(way);
     let steps = [(1, 1, 1), (1, 1, 2), (1, 2, 0), (2, 1, 0), (2, 255, 3)];
     let chart = chart(4, 1, &steps).bytes();
     let mut states: Vec<Vec<u8>> = (0..40).map(long_state).collect();
-    states.extend((0..=255).map(|set: u128| set.to_le_bytes().to_vec()));
-    states.extend((0..128).map(|v| state_of(&[v]).to_vec()));
+    let mut marked = |set, mark| states.push(state_with(set, mark).to_vec());
+    for mark in MARKS {
+        (0..=255).for_each(|set| marked(set, mark));
+    }
+    for mark in [0, 1] {
+        (0..128).for_each(|v| marked(1 << v, mark));
+    }
+    (0..=255).for_each(|mark| marked(1 << 1, mark));
     for state in states {
         trial.lengths(&chart, &state, &"a small chart");
     }
-    trial.seen.are(&[0, 53, 54, 55], 5, 424 * 4);
+    trial.seen.are(&[0, 53, 54, 55], 5, 1_576 * 4);
 }
 
-/// The end in the set: no event, also in no bytes, whatever else is there.
+/// The end in the set: no event, also in no bytes, whatever else is there. But
+/// where the run is spoilt, there is no way.
 pub fn at_the_end(way: Way) {
     let mut trial = Trial::of(way);
     for chart in [g().chart, chart(3, 1, &[]).bytes()] {
         for state in [state_of(&[0]), state_of(&[0, 1])] {
             assert_eq!(trial.lengths(&chart, &state, &"the end"), way_of(&[]));
+            let found = trial.lengths(&chart, &spoilt(state), &"the end, spoilt");
+            assert_eq!(found, refusal(55, 0));
         }
     }
-    trial.seen.are(&[0], 16, 16);
+    trial.seen.are(&[0, 55], 16, 32);
 }
 
 /// The lists of single states: document 01's G and the chart of two loops, then
@@ -407,7 +477,7 @@ pub fn single_lists(way: Way) {
 
 /// A vertex without a transition, a round without a way out, and a vertex that
 /// leads to both; 55 also where nothing is lent, and a way as soon as one vertex
-/// of the set has it.
+/// of the set has it and the run is not spoilt.
 pub fn without_a_way(way: Way) {
     let mut trial = Trial::of(way);
     let steps = [(2, 1, 3), (3, 1, 2), (4, 1, 1), (4, 2, 2), (5, 4, 0)];
@@ -418,6 +488,8 @@ pub fn without_a_way(way: Way) {
     }
     let all = state_of(&[1, 2, 3, 4, 5]);
     assert_eq!(trial.lengths(&chart, &all, &"one way"), way_of(&[4]));
+    let found = trial.lengths(&chart, &spoilt(all), &"spoilt");
+    assert_eq!(found, refusal(55, 0));
 }
 
 /// Where several refusals have a cause, the first in their order.
@@ -428,15 +500,30 @@ pub fn order_of_refusals(way: Way) {
     let (mut no_chart, mut unordered) = (chart.clone(), chart.clone());
     no_chart[0] = 129;
     unordered[8] = 0;
-    let empty = [0; 16];
-    let both = [no_chart, unordered, chart.clone()];
-    for (body, wanted) in both.iter().zip([(20, 0), (21, 1), (53, 0)]) {
-        for state in [&empty[..], &empty[..15], &[0xFF; 16], &[2; 17]] {
+    let near = state_of(&[1, 2]);
+    let marked = |set, mark| state_with(set, mark).to_vec();
+    let states = [
+        marked(0, 0),
+        marked(0, 1),
+        marked(0b110, 2),
+        marked(u128::MAX, 1),
+        marked(u128::MAX, 255),
+        near[..16].to_vec(),
+        [&near[..], &[0]].concat(),
+        [&spoilt(near)[..], &[1]].concat(),
+    ];
+    let both = [&no_chart, &unordered, &chart];
+    for (body, wanted) in both.into_iter().zip([(20, 0), (21, 1), (53, 0)]) {
+        for state in &states {
             let found = trial.lengths(body, state, &"all wrong");
             assert_eq!(found, refusal(wanted.0, wanted.1), "{state:?}");
         }
     }
-    let (stuck, near) = (state_of(&[1]), state_of(&[1, 2]));
+    for (body, wanted) in both.into_iter().zip([(20, 0), (21, 1), (55, 0)]) {
+        let found = trial.lengths(body, &spoilt(near), &"spoilt");
+        assert_eq!(found, refusal(wanted.0, wanted.1));
+    }
+    let stuck = state_of(&[1]);
     assert_eq!(trial.call(&chart, &stuck, 0, &"stuck"), refusal(55, 0));
     assert_eq!(trial.call(&chart, &near, 0, &"near"), refusal(54, 1));
     assert_eq!(trial.call(&chart, &near, 1, &"near"), way_of(&[1]));
@@ -467,7 +554,7 @@ pub fn a_line(way: Way) {
 /// The largest charts, from a vertex, from all but the end, and from others.
 pub fn at_the_limits(way: Way) {
     let mut trial = Trial::of(way);
-    let lengths = [127, 127, 1, 8, 4, 0];
+    let lengths = [127, 127, 1, 8, 4, 0, 0];
     for ((name, made), length) in gen::worst::way_calls().into_iter().zip(lengths) {
         let (answer, _) = trial.measured(&Measured::of(&made.chart), made.state, &name);
         assert_eq!(answer.p, length, "{name}");
@@ -479,6 +566,7 @@ pub fn at_the_limits(way: Way) {
         let on = Measured::of(&chart);
         let inner: Vec<usize> = (1..on.chart.vertices).collect();
         trial.measured(&on, state_of(&inner), &name);
+        trial.measured(&on, spoilt(state_of(&inner)), &name);
         for vertices in inner.chunks(8) {
             trial.measured(&on, state_of(&vertices[..1]), &name);
             trial.measured(&on, state_of(vertices), &name);
