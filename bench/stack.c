@@ -53,19 +53,34 @@ static void restart(void) {
     seq_restart(chart.bytes, chart.len, state, sizeof state);
 }
 
+static void press(uint8_t action) {
+    seq_event(chart.bytes, chart.len, state, sizeof state, action);
+}
+
+/* An event that is taken, where the start has one; then one that spoils the run, since no transition has the action 0, and
+ * one in the spoilt run. */
 static void event(void) {
     restart();
     for (size_t at = 4; at + 4 <= chart.len; at += 4)
         if (chart.bytes[at] == chart.bytes[1]) {
-            seq_event(chart.bytes, chart.len, state, sizeof state, chart.bytes[at + 1]);
+            press(chart.bytes[at + 1]);
             break;
         }
+    press(0);
+    press(0);
 }
 
-static void shortest_way(void) {
+static void way(void) {
     static uint8_t out[SEQ_LONGEST_WAY];
-    restart();
     seq_shortest_way(chart.bytes, chart.len, state, sizeof state, out, sizeof out);
+}
+
+/* From the start, and from there in a spoilt run. */
+static void shortest_way(void) {
+    restart();
+    way();
+    press(0);
+    way();
 }
 
 /* A chart of 127 vertices, each of which branches to the next lower one. In a nest each has an entry to the next higher one

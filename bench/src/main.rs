@@ -13,7 +13,7 @@
 //!   those of a corpus one after another.
 //! * `bench write FOLDER` writes the named files, removals, lists of loops, calls of the follower,
 //!   shortest ways and expressions of charts, and the corpora.
-use oracle::gen::lists;
+use oracle::gen::lists::{self, State};
 use oracle::gen::worst::{self, Extraction, FollowerCall, Removal, TogetherCall, WayCall};
 use oracle::gen::{self, Yard};
 use oracle::{fast, plain, Answer};
@@ -41,7 +41,7 @@ enum Call {
     Follow {
         made: FollowerCall,
         /// The bytes that are lent.
-        state: [u8; 16],
+        state: State,
     },
     Way {
         made: WayCall,
@@ -153,10 +153,10 @@ impl Call {
     }
 
     fn read_follow(file: &[u8]) -> Call {
-        let (state, chart) = file[2..].split_at(16);
+        let (state, chart) = file[2..].split_first_chunk().expect("a state");
         Call::follow(FollowerCall {
             chart: chart.to_vec(),
-            state: state.try_into().expect("16 bytes"),
+            state: *state,
             call: match file[0] {
                 0 => lists::Call::Restart,
                 _ => lists::Call::Event(file[1]),
@@ -165,10 +165,10 @@ impl Call {
     }
 
     fn read_way(file: &[u8]) -> Call {
-        let (state, rest) = file.split_at(16);
+        let (state, rest) = file.split_first_chunk().expect("a state");
         Call::way(WayCall {
             chart: rest[LONGEST_WAY..].to_vec(),
-            state: state.try_into().expect("16 bytes"),
+            state: *state,
         })
     }
 
