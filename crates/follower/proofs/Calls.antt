@@ -1,6 +1,6 @@
 -- One call: what the definitions answer and leave is what the documents say, both ways.
 use Prim.Native.Nat.{ℕ, _<_, _≤_}
-use mathlib.Core.Path.{_≡_, refl, sym, ap, ap₂, _∙_, subst}
+use mathlib.Core.Path.{_≡_, refl, sym, ap, ap₂, _∙_}
 use mathlib.Core.Logic.{_≢_, _⊎_, inl, inr, ⊎-elim, _↔_, Iff·rfl, Iff·symm, Iff·trans, by-cases}
 use mathlib.Core.Bool.{Bool, true, false, cond, true≢false}
 use mathlib.Core.List.{List, [], _∷_, _++_, List·Memᴰ, List·Memᴰ·head, List·Memᴰ·eq-of-singleton}
@@ -12,9 +12,9 @@ use lib.Seq.{length-take-le, getD-take, getD-at, take-at, ext-getD}
 use borrow.Author.Tests.{eq-eqb, ne-eqb, eqb-true}
 use Rattle.theory.specs.Tests.{Decides, someIn}
 use Rattle.theory.specs.Followers.{StateSet, SameMembers, Offered, Closed, View, Shows, Effect, keep, fresh, empty, go, Becomes, Response, Responds}
-use Rattle.theory.specs.Events.{Call, restart, event, Answer, taken, not-possible, told, reply, stepReply, eventRule}
+use Rattle.theory.specs.Events.{Call, restart, event, Answer, taken, not-possible, told, reply, eventRule}
 use Rattle.theory.specs.Runs.{viewOf, leftBy, callOn}
-use Rattle.theory.proofs.Tests.{decided, is-false, decides-same, decides-and, decides-not, decides-eqb, decides-leb, decides-in, decides-listed, not-so}
+use Rattle.theory.proofs.Tests.{decided, is-false, decides-same, decides-and, decides-not, decides-leb, decides-in, decides-listed, not-so}
 use Rattle.theory.proofs.Systems.{identity, lift-equal, equal-lift}
 use Rattle.theory.proofs.Followers.{shows-carried, responds-agree, responds-carried, responds-same, responds-within, responds-some, chart-closed}
 use Rattle.theory.proofs.Events.{restart-taken, event-taken, event-not-possible, event-spoilt, event-never-empties}

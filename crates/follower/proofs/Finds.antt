@@ -19,7 +19,7 @@ use Rattle.theory.proofs.Search.{look-below}
 use Rattle.theory.proofs.Followers.{one-view}
 use Rattle.theory.proofs.Runs.{view-shows, effect-members, chart-machine}
 use Rattle.report.specs.declared.Followed.{Followed}
-use Rattle.report.specs.declared.Followed.the-variants.{Taken, NotPossible, Spoilt}
+use Rattle.report.specs.declared.Followed.the-variants.{Spoilt}
 use Rattle.report.specs.declared.Place.the-variants as place
 use Rattle.report.specs.declared.Stage.{Stage}
 use Rattle.report.specs.declared.Stage.the-variants as stage
@@ -38,7 +38,7 @@ use Rattle.chart.proofs.Rows.{to-low}
 use Rattle.follower.specs.declared.Follower.{Follower}
 use Rattle.follower.specs.declared.Stepped.{Stepped}
 use Rattle.follower.specs.States.{stateIn, InState, Unspoilt, IsSpoilt, membersOf, setOf, stateWith, spoiltState, noState}
-use Rattle.follower.specs.Parts.{Same, VerticesFit, Fits, StepBy, CountOffered, wordOf, Tells}
+use Rattle.follower.specs.Parts.{Same, Fits, StepBy, wordOf, Tells}
 use Rattle.follower.specs.Calls.{stateStage, followedAs, answerOf, stateAfter, moved, ruledOf}
 use Rattle.follower.specs.FollowerAnswers.{StateFits}
 use Rattle.follower.proofs.Calls.{unspoilt-kept, tests-state, state-ready, state-unready}

@@ -1,7 +1,7 @@
 -- The shortest way: what the definitions answer and leave is what document 02 says, both ways; and so is what the code finds.
 use Prim.Native.Nat.{ℕ, _*_, _+_, _≤_, _<_}
 use mathlib.Core.Path.{_≡_, refl, sym, ap, _∙_, subst}
-use mathlib.Core.Logic.{_⊎_, ⊎-elim, _↔_, Iff·symm, Iff·trans, by-cases}
+use mathlib.Core.Logic.{_⊎_, ⊎-elim, _↔_, Iff·symm, by-cases}
 use mathlib.Core.Bool.{true, false, true≢false}
 use mathlib.Core.List.{List, map, List·Memᴰ, Memᴰ·of-map, _++_}
 use native.Mathlib.Decide.{ℕ-discrete, decLt}
@@ -12,7 +12,6 @@ use lib.Dec.{eqb}
 use borrow.Author.Tests.{eq-eqb, ne-eqb, lt-ltb, le-ltb}
 use Rattle.theory.specs.Least.{Least}
 use Rattle.theory.specs.Systems.{System}
-use Rattle.theory.specs.Followers.{HoldsEnd}
 use Rattle.theory.specs.Events.{event}
 use Rattle.theory.specs.Runs.{Machine, system, MembersOf}
 use Rattle.theory.specs.Ways.{Shortest, EndsFrom, LowestOf}
@@ -48,7 +47,7 @@ use Rattle.follower.specs.Layers.{SomeEnds, WayFrom}
 use Rattle.follower.specs.Parts.{Same}
 use Rattle.follower.proofs.Bytes.{members-are}
 use Rattle.follower.proofs.Calls.{formed-in, unspoilt-kept, kept-unspoilt, tests-state, state-ready, state-unready}
-use Rattle.follower.proofs.Lists.{Holding, RunRuled, lent-run}
+use Rattle.follower.proofs.Lists.{Holding, lent-run}
 use Rattle.follower.proofs.Finds.{move-acts}
 
 -- the answer x and the lent bytes t are what is handed back and left

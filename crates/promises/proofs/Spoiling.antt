@@ -1,8 +1,8 @@
 -- A wrong button spoils the run (document 02, C-15), proved.
 use Prim.Native.Nat.{ℕ}
-use mathlib.Core.Path.{_≡_, refl, sym, ap, _∙_}
+use mathlib.Core.Path.{_≡_, refl, ap, _∙_}
 use mathlib.Core.Logic.{_↔_}
-use mathlib.Core.Bool.{Bool, false}
+use mathlib.Core.Bool.{false}
 use mathlib.Core.List.{List, [], _∷_, _++_, map}
 use native.Mathlib.Omega.{arith}
 use Rattle.theory.specs.Events.{Call, event, taken, not-possible, Answer, answer, refused-53, eventRule}
@@ -14,17 +14,15 @@ use Rattle.theory.proofs.Runs.{chart-answers}
 use Rattle.theory.proofs.Spoiling.{answers-exactly, exactly-written}
 use Rattle.report.specs.declared.Numbers.{Numbers}
 use Rattle.report.specs.declared.Followed.the-variants.{Taken, NotPossible, Spoilt}
-use Rattle.report.specs.Numbers.{four, followedNumbers}
 use Rattle.bits.specs.Bits.{Bytes}
 use Rattle.chart.specs.Bodies.{WellFormed}
 use Rattle.chart.specs.Systems.{systemOf, machineOf}
-use Rattle.follower.specs.States.{stateIn}
 use Rattle.follower.specs.FollowerAnswers.{holds-state}
 use Rattle.follower.specs.FollowerAnswers as answers
 use Rattle.follower.specs.WayAnswers.{StatePasses}
 use Rattle.follower.proofs.Calls.{bytes-back}
 use Rattle.promises.specs.Demand3.{ruleNumbers}
-use Rattle.promises.specs.Spoiling.{LentGives, OfAnEvent, SaysSpoilt, SaysNotPossible, SpoiltUntilRestart}
+use Rattle.promises.specs.Spoiling.{OfAnEvent, SaysSpoilt, SaysNotPossible, SpoiltUntilRestart}
 use Rattle.promises.proofs.Follower.{lent-numbers}
 use Rattle.promises.proofs.Demand3.{gives}
 

@@ -5,7 +5,7 @@ use mathlib.Core.Logic.{_↔_}
 use mathlib.Core.Bool.{Bool}
 use mathlib.Core.List.{List, [], _∷_, _++_}
 use Prim.Native.Nat.{ℕ}
-use lib.ListN.{length, getD, take}
+use lib.ListN.{getD, take}
 use Rattle.theory.specs.Events.{Call, event}
 use Rattle.theory.specs.Spoiling.{SpoiltExactly}
 use Rattle.report.specs.declared.Numbers.{Numbers}

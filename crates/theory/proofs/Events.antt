@@ -9,7 +9,7 @@ use lib.Dec.{eqb}
 use Rattle.theory.specs.Systems.{System}
 use Rattle.theory.specs.Tests.{Decides, someIn}
 use Rattle.theory.specs.Followers.{StateSet, SameMembers, Fresh, Some, Next, Offered, View, Shows, Effect, keep, fresh, go, Becomes, Responds, Answers, LeavesSome, keeps, starts, goes, NeverEmpties}
-use Rattle.theory.specs.Events.{Call, restart, event, Word, taken, not-possible, Answer, spoilt, refused-53, told, reply, stepReply, replyTo, eventRule}
+use Rattle.theory.specs.Events.{Call, restart, event, Word, taken, not-possible, Answer, spoilt, refused-53, told, reply, replyTo, eventRule}
 use Rattle.theory.proofs.Tests.{decides-same, decides-listed, is-false}
 use Rattle.theory.proofs.Followers.{answers-some}
 

@@ -11,7 +11,7 @@ use Rattle.theory.specs.Tests.{someIn}
 use Rattle.theory.specs.Systems.{System}
 use Rattle.theory.specs.Followers.{StateSet, Some, View, keep, fresh, go, Responds, Follows, Answers}
 use Rattle.theory.specs.Followers as followers
-use Rattle.theory.specs.Events.{Call, restart, event, Word, taken, not-possible, Answer, answer, spoilt, told, reply, replyTo, stepReply, eventRule}
+use Rattle.theory.specs.Events.{Call, restart, event, taken, not-possible, Answer, answer, spoilt, told, reply, eventRule}
 use Rattle.theory.specs.Spoiling.{At, here, later, SpoiltBefore, SpoiltExactly, IsNotPossible, RuleSpoiltExactly, Told, restarts, goes, spoils, stays, EachTold, none, call}
 use Rattle.theory.proofs.Followers.{responds-some}
 use Rattle.theory.proofs.Events.{event-never-empties}
@@ -75,7 +75,7 @@ stays-spoilt stays n = refl
 
 -- THE LIST, from a state that may be spoilt already
 abbrev Before : List Call → List Answer → ℕ → Type 0
-Before = SpoiltBefore (λ x. x ≡ spoilt) IsNotPossible
+Before = SpoiltBefore IsNotPossible
 
 -- spoilt from the beginning, and no restart before place i
 abbrev Ever : Bool → List Call → ℕ → Type 0
@@ -192,7 +192,7 @@ module _ {A B : Type 0} {S N : A → Type 0} {S′ N′ : B → Type 0} (f : A �
       length-map-of f [] = refl
       length-map-of f (x ∷ xs) = ap suc (length-map-of f xs)
 
-      to : {i : ℕ} → SpoiltBefore S N cs xs i → SpoiltBefore S′ N′ cs (map f xs) i
+      to : {i : ℕ} → SpoiltBefore N cs xs i → SpoiltBefore N′ cs (map f xs) i
       to b = record {
         place = b .place;
         sooner = b .sooner;
@@ -202,7 +202,7 @@ module _ {A B : Type 0} {S N : A → Type 0} {S′ N′ : B → Type 0} (f : A �
         no-restart = b .no-restart;
       }
 
-      from : {i : ℕ} → SpoiltBefore S′ N′ cs (map f xs) i → SpoiltBefore S N cs xs i
+      from : {i : ℕ} → SpoiltBefore N′ cs (map f xs) i → SpoiltBefore N cs xs i
       from b = let (x, g, e) = at-of-map f xs (b .at-place) in record {
         place = b .place;
         sooner = b .sooner;

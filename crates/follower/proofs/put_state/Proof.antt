@@ -9,7 +9,8 @@ use Rattle.follower.proofs.put_state.Statement.{statement}
 use Rattle.follower.proofs.put_state.Tie as tie
 
 abbrev Inv-loop : tie.InvT-loop
-Inv-loop state₀ follower set i₀ state i = (length state₀ ≡ 17) × (length set ≡ 16) × (i ≤ 16) × (set ≡ follower .set) × Copied 17 set i state
+Inv-loop state₀ follower set i₀ state i =
+    (length state₀ ≡ 17) × (length set ≡ 16) × (i ≤ 16) × (set ≡ follower .set) × Copied 17 set i state
 
 abbrev μ-loop : tie.MeasureT-loop
 μ-loop state₀ follower set i₀ state i = 16 - i
@@ -30,7 +31,10 @@ loop-less : tie.Need-loop-less Inv-loop μ-loop
 loop-less c = search needs
 
 loop-again : tie.Need-loop-again Inv-loop μ-loop
-loop-again c = let i = c .before .loop .inv in (i .0, i .1, omega (arith, c .loop-test .taken), i .3, copied-more (omega (arith, c .loop-test .taken)) (i .4))
+loop-again c =
+    let i = c .before .loop .inv in
+    let t = c .loop-test .taken in
+    (i .0, i .1, omega (arith, t), i .3, copied-more (omega (arith, t)) (i .4))
 
 slice-write-state-2 : tie.Need-slice-write-state-2 Inv-loop μ-loop
 slice-write-state-2 c = omega (arith, c .before .loop .inv .4 .long)
