@@ -101,6 +101,12 @@ pub fn two_loops() -> Chart {
     chart(3, 1, &[(1, 1, 2), (1, 3, 0), (2, 1, 2), (2, 2, 1)])
 }
 
+/// One of four vertices, of which one leads to two by one action.
+pub fn four_vertices() -> Chart {
+    let steps = [(1, 1, 1), (1, 1, 2), (1, 2, 0), (2, 1, 0), (2, 255, 3)];
+    chart(4, 1, &steps)
+}
+
 /// The chart of an accepted file.
 pub fn chart_of(yard: &Yard) -> Chart {
     Chart::read(&yard.chart).expect("an accepted file's chart")
@@ -156,6 +162,21 @@ fn some_mark(rng: &mut Rng) -> u8 {
 
 /// Marks that pass, and some that don't.
 pub const MARKS: [u8; 4] = [0, 1, 2, 255];
+
+/// Each set of eight vertices with some marks, each single vertex of 128, spoilt
+/// or not, each mark, and each length of a state up to 40.
+pub fn all_states() -> Vec<Vec<u8>> {
+    let mut states: Vec<Vec<u8>> = (0..40).map(long_state).collect();
+    let mut marked = |set, mark| states.push(state_with(set, mark).to_vec());
+    for mark in MARKS {
+        (0..=255).for_each(|set| marked(set, mark));
+    }
+    for mark in [0, 1] {
+        (0..128).for_each(|v| marked(1 << v, mark));
+    }
+    (0..=255).for_each(|mark| marked(1 << 1, mark));
+    states
+}
 
 /// What lent bytes hold before a call.
 pub fn pattern(length: usize) -> Vec<u8> {

@@ -1,7 +1,9 @@
 //! Some follower held against the plain one, on lent states, and lists of calls
 //! over accepted files against the published rules' follower.
 #![allow(dead_code)]
-use crate::common::{chart, damage_chart, files, g, long_state, some_state, Seen, MARKS};
+use crate::common::{
+    all_states, chart, damage_chart, files, four_vertices, g, long_state, some_state, Seen,
+};
 use oracle::gen::lists::{events, offered, state_with, Call};
 use oracle::gen::{self, Rng};
 use oracle::plain::{read_nodes, RulesFollower};
@@ -313,23 +315,11 @@ fn some_event(rng: &mut Rng, chart: &[u8], state: &[u8]) -> Call {
     Call::Event(rng.pick(&actions))
 }
 
-/// Each set of eight vertices over a chart of four with some marks, each single
-/// vertex of 128, spoilt or not, each mark, and each length of a state up to 40,
-/// with all its actions and some others.
+/// Over a chart of four vertices all states, with all its actions and some others.
 pub fn all_of_a_small_chart(follower: Follower) {
     let mut trial = Trial::of(follower);
-    let steps = [(1, 1, 1), (1, 1, 2), (1, 2, 0), (2, 1, 0), (2, 255, 3)];
-    let chart = chart(4, 1, &steps).bytes();
-    let mut states: Vec<Vec<u8>> = (0..40).map(long_state).collect();
-    let mut marked = |set, mark| states.push(state_with(set, mark).to_vec());
-    for mark in MARKS {
-        (0..=255).for_each(|set| marked(set, mark));
-    }
-    for mark in [0, 1] {
-        (0..128).for_each(|v| marked(1 << v, mark));
-    }
-    (0..=255).for_each(|mark| marked(1 << 1, mark));
-    for state in states {
+    let chart = four_vertices().bytes();
+    for state in all_states() {
         let events = [0, 1, 2, 3, 254, 255].map(Call::Event);
         for call in events.into_iter().chain([Call::Restart]) {
             trial.call(call, &chart, &mut state.clone(), &"a small chart");

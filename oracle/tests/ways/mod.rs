@@ -2,7 +2,9 @@
 //! lent bytes of every length that matters. Where there are too many sets for
 //! the plain one, against its definition alone.
 #![allow(dead_code)]
-use crate::common::{chart, damage_chart, files, g, long_state, pattern, some_state, Seen, MARKS};
+use crate::common::{
+    all_states, chart, damage_chart, files, four_vertices, g, pattern, some_state, Seen,
+};
 use crate::followers::Follower;
 use oracle::gen::charts::{renamed, shuffled};
 use oracle::gen::lists::{events, state_with, Call, State};
@@ -406,22 +408,11 @@ pub fn all_small_charts(way: Way) {
     trial.seen.are(&[0, 54, 55], 1_000, 4_096 * 7 * 10);
 }
 
-/// Over a chart of four vertices each set of eight with some marks, each single
-/// vertex of 128, spoilt or not, each mark, and each length of a state up to 40.
+/// Over a chart of four vertices all states.
 pub fn all_states_of_a_small_chart(way: Way) {
     let mut trial = Trial::of(way);
-    let steps = [(1, 1, 1), (1, 1, 2), (1, 2, 0), (2, 1, 0), (2, 255, 3)];
-    let chart = chart(4, 1, &steps).bytes();
-    let mut states: Vec<Vec<u8>> = (0..40).map(long_state).collect();
-    let mut marked = |set, mark| states.push(state_with(set, mark).to_vec());
-    for mark in MARKS {
-        (0..=255).for_each(|set| marked(set, mark));
-    }
-    for mark in [0, 1] {
-        (0..128).for_each(|v| marked(1 << v, mark));
-    }
-    (0..=255).for_each(|mark| marked(1 << 1, mark));
-    for state in states {
+    let chart = four_vertices().bytes();
+    for state in all_states() {
         trial.lengths(&chart, &state, &"a small chart");
     }
     trial.seen.are(&[0, 53, 54, 55], 5, 1_576 * 4);
