@@ -11,8 +11,8 @@ use lib.ListN.{length, getD, take, length-append, List·getD-append}
 use lib.Seq.{length-take-le, getD-take, getD-at, take-at, ext-getD}
 use borrow.Author.Tests.{eq-eqb, ne-eqb, eqb-true}
 use Rattle.theory.specs.Tests.{Decides, someIn}
-use Rattle.theory.specs.Followers.{StateSet, SameMembers, Offered, Closed, View, Shows, Effect, keep, fresh, empty, go, Becomes, Response, Responds}
-use Rattle.theory.specs.Events.{Call, restart, event, Answer, taken, not-possible, told, reply, eventRule}
+use Rattle.theory.specs.Followers.{StateSet, SameMembers, Offered, Closed, View, Shows, Effect, keep, fresh, empty, go, Becomes, Responds}
+use Rattle.theory.specs.Events.{Call, restart, event, Answer, taken, told, stepReply, eventRule}
 use Rattle.theory.specs.Runs.{viewOf, leftBy, callOn}
 use Rattle.theory.proofs.Tests.{decided, is-false, decides-same, decides-and, decides-not, decides-leb, decides-in, decides-listed, not-so}
 use Rattle.theory.proofs.Systems.{identity, lift-equal, equal-lift}
@@ -78,13 +78,21 @@ state-back f l =
     let m = getD-at (f .set) (f .mark) [] 0 16 l in
     λ i. record { set = s i; mark = m i }
 
--- THE MARK, and what the rule keeps
+-- THE MARK is 0 or 1: what 53 asks, and what the rule keeps
+pub mark-low : (m : ℕ) → ((m ≡ 0) ⊎ (m ≡ 1)) ↔ (m ≤ 1)
+mark-low m = (
+  ⊎-elim (λ e. omega (arith, e)) (λ e. omega (arith, e)),
+  λ l. by-cases (ℕ-discrete m 0) (λ e. inl e) (λ n. inr (omega (arith, l, n))),
+)
+
+pub not-spoilt : {m : ℕ} → (m ≡ 0) ⊎ (m ≡ 1) → ¬ (m ≡ 1) → m ≡ 0
+not-spoilt k n = ⊎-elim (λ e. e) (λ e. absurd (n e)) k
+
 pub unspoilt-kept : {m : ℕ} → m ≡ 0 → eqb m 1 ≡ false
 unspoilt-kept e = rw e refl
 
 pub kept-unspoilt : {m : ℕ} → (m ≡ 0) ⊎ (m ≡ 1) → eqb m 1 ≡ false → m ≡ 0
-kept-unspoilt (inl e) k = e
-kept-unspoilt {m} (inr e) k = absurd (true≢false (sym (eq-eqb m 1 e) ∙ k))
+kept-unspoilt {m} g k = not-spoilt g (λ e. true≢false (sym (eq-eqb m 1 e) ∙ k))
 
 same-mark : {m n : ℕ} → (m ≡ 0) ⊎ (m ≡ 1) → (n ≡ 0) ⊎ (n ≡ 1) → eqb m 1 ≡ eqb n 1 → m ≡ n
 same-mark (inl e) g k = e ∙ sym (kept-unspoilt g (sym k ∙ unspoilt-kept e))
@@ -106,11 +114,11 @@ tests-state b f =
       (λ (((v, m), none), l). record {
         some = (v, members-are f v .0 m);
         below = λ w i. below w (λ l. none (w, members-are f w .1 i, l));
-        marked = marked (f .mark) l;
+        marked = mark-low (f .mark) .1 l;
       }),
       (λ p. (
         ((p .some .0, members-are f _ .1 (p .some .1)), λ (v, m, l). omega (arith, p .below v (members-are f v .0 m))),
-        ⊎-elim (λ e. omega (arith, e)) (λ e. omega (arith, e)) (p .marked),
+        mark-low (f .mark) .0 (p .marked),
       )),
     )
     (decides-and (decides-and (view-shows (machineOf b) (membersOf f) .some)
@@ -118,9 +126,6 @@ tests-state b f =
   where
     below : (w : ℕ) → ¬ (verticesOf b ≤ w) → w < verticesOf b
     below w n = omega arith
-
-    marked : (m : ℕ) → m ≤ 1 → (m ≡ 0) ⊎ (m ≡ 1)
-    marked m l = by-cases (ℕ-discrete m 0) (λ e. inl e) (λ n. inr (omega arith))
 
 pub state-ready : {b : List ℕ} {f : Follower} → StateFits b f → stateStage b f ≡ stage.Passed
 state-ready {b} {f} p = rw (tests-state b f .1 p) refl
@@ -296,14 +301,11 @@ module _ {b : List ℕ} (W : WellFormed b) where
   }
 
   -- FROM THE RULE to what the documents say: an event on a state that is not spoilt, by whether it is offered
-  abbrev byOffer : ℕ → Bool → Response Answer Bool
-  byOffer a d = cond d (reply (go a) (told taken) false) (reply keep (told not-possible) true)
-
   unspoilt-says : {a : ℕ} {f g : Follower} {x : Answer} {v w : View} → Formed f → StateFits b f → Unspoilt f → Formed g → Marked g
       → Shows (systemOf b) (InState f) v → Shows (systemOf b) (InState g) w
       → (d : Bool) → someIn (eqb a) (v .offered) ≡ d
-      → SameMembers (systemOf b) (InState g) (Becomes (systemOf b) (InState f) (byOffer a d .effect))
-      → x ≡ byOffer a d .answer w → keptIn g ≡ byOffer a d .kept w
+      → SameMembers (systemOf b) (InState g) (Becomes (systemOf b) (InState f) (stepReply false d a .effect))
+      → x ≡ stepReply false d a .answer w → keptIn g ≡ stepReply false d a .kept w
       → CallAnswer b f (event a) (followedAs x) g
   unspoilt-says {a} {v = v} F p u G n h k true e m q l =
       rw q (goes W p u (h .offered a .0 (decides-listed a (v .offered) .0 e)) G m (kept-unspoilt n l) (view-shown k))

@@ -1,10 +1,10 @@
 -- What the code of a call finds, by sets and marks, is what the definitions say of the state.
 use Prim.Native.Nat.{ℕ, _+_, _*_, _/_, _%_, _≤_, _<_}
 use mathlib.Core.Path.{_≡_, refl, sym, _∙_, ap, ap₂, subst}
-use mathlib.Core.Logic.{_⊎_, inl, inr, ⊎-elim, _↔_, Iff·symm, Iff·trans, by-cases}
+use mathlib.Core.Logic.{_⊎_, inr, ⊎-elim, _↔_, Iff·symm, Iff·trans, by-cases}
 use mathlib.Core.Bool.{Bool, true, false, true≢false}
 use mathlib.Core.List.{List, [], _∷_, List·Memᴰ, List·Memᴰ·head, List·Memᴰ·not-nil, List·Memᴰ·eq-of-singleton}
-use native.Mathlib.Decide.{ℕ-discrete, decLt}
+use native.Mathlib.Decide.{decLt}
 use native.Mathlib.Omega.{arith}
 use lib.Dec.{eqb, ltb}
 use borrow.Author.Tests.{eq-eqb}
@@ -41,7 +41,7 @@ use Rattle.follower.specs.States.{stateIn, InState, Unspoilt, IsSpoilt, 
 use Rattle.follower.specs.Parts.{Same, Fits, StepBy, wordOf, Tells}
 use Rattle.follower.specs.Calls.{stateStage, followedAs, answerOf, stateAfter, moved, ruledOf}
 use Rattle.follower.specs.FollowerAnswers.{StateFits}
-use Rattle.follower.proofs.Calls.{unspoilt-kept, tests-state, state-ready, state-unready}
+use Rattle.follower.proofs.Calls.{mark-low, unspoilt-kept, tests-state, state-ready, state-unready}
 use Rattle.bits.proofs.SetBytes.{set-length, set-bytes, same-bytes}
 use Rattle.follower.proofs.Bytes.{set-has, list-from→, list-from←, list-ascends, members-are}
 
@@ -225,12 +225,12 @@ fits-passes b f {set} S = (to, from)
     to : StateFits b f → Fits (verticesOf b) set (f .mark)
     to p = (
       ((λ e. e _ (in-set _ .0 (p .some .1))), λ w h. p .below w (in-set w .1 h)),
-      ⊎-elim (λ e. omega (arith, e)) (λ e. omega (arith, e)) (p .marked),
+      mark-low (f .mark) .0 (p .marked),
     )
 
     from : Fits (verticesOf b) set (f .mark) → StateFits b f
     from ((n, g), m) = record {
-      marked = by-cases (ℕ-discrete (f .mark) 0) (λ e. inl e) (λ k. inr (omega (arith, m, k)));
+      marked = mark-low (f .mark) .1 m;
       some = ⊎-elim (λ (x, l, h). (x, in-set x .1 h)) (λ k. absurd (n (λ w h. k w (h .below) h))) (look-below (has? set) 128);
       below = λ w i. g w (in-set w .0 i);
     }

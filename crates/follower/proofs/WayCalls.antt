@@ -1,7 +1,7 @@
 -- The shortest way: what the definitions answer and leave is what document 02 says, both ways; and so is what the code finds.
 use Prim.Native.Nat.{ℕ, _*_, _+_, _≤_, _<_}
 use mathlib.Core.Path.{_≡_, refl, sym, ap, _∙_, subst}
-use mathlib.Core.Logic.{_⊎_, ⊎-elim, _↔_, Iff·symm, by-cases}
+use mathlib.Core.Logic.{_↔_, Iff·symm, by-cases}
 use mathlib.Core.Bool.{true, false, true≢false}
 use mathlib.Core.List.{List, map, List·Memᴰ, Memᴰ·of-map, _++_}
 use native.Mathlib.Decide.{ℕ-discrete, decLt}
@@ -46,7 +46,7 @@ use Rattle.follower.specs.Layers as layers
 use Rattle.follower.specs.Layers.{SomeEnds, WayFrom}
 use Rattle.follower.specs.Parts.{Same}
 use Rattle.follower.proofs.Bytes.{members-are}
-use Rattle.follower.proofs.Calls.{formed-in, unspoilt-kept, kept-unspoilt, tests-state, state-ready, state-unready}
+use Rattle.follower.proofs.Calls.{formed-in, not-spoilt, unspoilt-kept, kept-unspoilt, tests-state, state-ready, state-unready}
 use Rattle.follower.proofs.Lists.{Holding, lent-run}
 use Rattle.follower.proofs.Finds.{move-acts}
 
@@ -113,7 +113,7 @@ module _ {b s : List ℕ} (B : Bytes b) (D : Bytes s) (P : StatePasses b s) wher
 
   -- a list that does it is only found where the state is not spoilt
   found-unspoilt : (xs : List ℕ) → EndsAfter b s xs → Unspoilt f
-  found-unspoilt xs e = ⊎-elim (λ u. u) (λ u. absurd (spoilt-never u xs e)) (P .fits .marked)
+  found-unspoilt xs e = not-spoilt (P .fits .marked) (λ u. spoilt-never u xs e)
 
   -- and in its machine
   carried : (xs : List ℕ) → EndsFrom (system M) (MembersOf M (membersOf f)) xs ↔ EndsFrom C (InState f) xs
@@ -137,7 +137,7 @@ module _ {b s : List ℕ} (B : Bytes b) (D : Bytes s) (P : StatePasses b s) wher
   unspoilt-events u = rw (unspoilt-kept u) refl
 
   low-unspoilt : eventsToEnd b s < verticesOf b → Unspoilt f
-  low-unspoilt h = ⊎-elim (λ u. u) (λ u. absurd (omega (arith, h, spoilt-events u))) (P .fits .marked)
+  low-unspoilt h = not-spoilt (P .fits .marked) (λ u. omega (arith, h, spoilt-events u))
 
   pub list-found : eventsToEnd b s < verticesOf b → ShortestWay b s (shortestList b s)
   unfolding shortestList
@@ -284,11 +284,10 @@ module _ {b s : List ℕ} (B : Bytes b) (D : Bytes s) (P : StatePasses b s) (u :
   )
 
   -- as many steps as from the list of its vertices
-  steps : ℕ
+  abbrev steps : ℕ
   steps = stepsToEnd (machineOf b) (verticesOf b) (membersOf (stateIn s))
 
   same-number : {d : ℕ} → d < verticesOf b → Least (SomeEnds b set) d → eventsToEnd b s ≡ d
-  unfolding steps
   same-number {d} l L =
       unspoilt-events B D P u ∙
       by-cases (decLt steps (verticesOf b))
@@ -304,7 +303,6 @@ module _ {b s : List ℕ} (B : Bytes b) (D : Bytes s) (P : StatePasses b s) (u :
       (rw e (lowest-carried listed (lowest-list (machineOf b) (action-byte B D P) d (membersOf (stateIn s)) (some-listed d .1 (L .holds)))))
 
   pub found-way : {out t : List ℕ} {x : Way} → WayFrom b set out x t → WayGives b s out x t
-  unfolding steps
   found-way {out} (layers.no-way f) = way-none B D P out (by-cases (decLt steps (verticesOf b))
       (λ h. absurd (f _ h (some-listed _ .0 (steps-least (machineOf b) (verticesOf b) (membersOf (stateIn s)) h .holds))))
       (λ h. omega (arith, h, unspoilt-events B D P u)))

@@ -9,7 +9,7 @@ use lib.Dec.{eqb}
 use Rattle.theory.specs.Systems.{System}
 use Rattle.theory.specs.Tests.{Decides, someIn}
 use Rattle.theory.specs.Followers.{StateSet, SameMembers, Fresh, Some, Next, Offered, View, Shows, Effect, keep, fresh, go, Becomes, Responds, Answers, LeavesSome, keeps, starts, goes, NeverEmpties}
-use Rattle.theory.specs.Events.{Call, restart, event, Word, taken, not-possible, Answer, spoilt, refused-53, told, reply, replyTo, eventRule}
+use Rattle.theory.specs.Events.{Call, restart, event, Word, taken, not-possible, Answer, spoilt, refused-53, told, reply, stepReply, replyTo, eventRule}
 use Rattle.theory.proofs.Tests.{decides-same, decides-listed, is-false}
 use Rattle.theory.proofs.Followers.{answers-some}
 
@@ -58,8 +58,7 @@ event-never-empties k restart v = starts
 event-never-empties k (event a) v = cases (v .some) k (someIn (eqb a) (v .offered)) refl
   where
     cases : (b k c : Bool) → someIn (eqb a) (v .offered) ≡ c
-        → LeavesSome v (cond b (cond k (reply keep (λ w. spoilt) true) (cond c (reply (go a) (told taken) false)
-        (reply keep (told not-possible) true))) (reply keep (λ w. refused-53) k) .effect)
+        → LeavesSome v (cond b (stepReply k c a) (reply keep (λ w. refused-53) k) .effect)
     cases true true c e = keeps
     cases true false true e = goes (decides-listed a (v .offered) .0 e)
     cases true false false e = keeps
@@ -76,8 +75,7 @@ not-refused : (k : Bool) (c : Call) (v w : View) → v .some ≡ true → replyT
 not-refused k restart v w h = told-not-refused taken w
 not-refused k (event a) v w h = rw h (cases k (someIn (eqb a) (v .offered)))
   where
-    cases : (k c : Bool) → cond k (reply keep (λ w. spoilt) true) (cond c (reply (go a) (told taken) false)
-        (reply keep (told not-possible) true)) .answer w ≢ refused-53
+    cases : (k c : Bool) → stepReply k c a .answer w ≢ refused-53
     cases true c = spoilt-not-refused
     cases false true = told-not-refused taken w
     cases false false = told-not-refused not-possible w

@@ -2,36 +2,46 @@
 use Prim.Native.Nat.{ℕ, zero, suc, _<_}
 use mathlib.Core.Path.{_≡_, refl, sym, ap, _∙_}
 use mathlib.Core.Logic.{_↔_, _⊎_, inl, inr, ⊎-elim, Iff·symm, Iff·trans}
-use mathlib.Core.Bool.{Bool, true, false, cond, true≢false}
+use mathlib.Core.Bool.{Bool, true, false, true≢false}
 use mathlib.Core.List.{List, [], _∷_, map}
 use native.Mathlib.Omega.{arith}
 use lib.Dec.{eqb}
 use lib.ListN.{length}
 use Rattle.theory.specs.Tests.{someIn}
 use Rattle.theory.specs.Systems.{System}
-use Rattle.theory.specs.Followers.{StateSet, Some, View, keep, fresh, go, Responds, Follows, Answers}
+use Rattle.theory.specs.Followers.{StateSet, Some, View, Responds, Follows, Answers}
 use Rattle.theory.specs.Followers as followers
-use Rattle.theory.specs.Events.{Call, restart, event, taken, not-possible, Answer, answer, spoilt, told, reply, eventRule}
-use Rattle.theory.specs.Spoiling.{At, here, later, SpoiltBefore, SpoiltExactly, IsNotPossible, RuleSpoiltExactly, Told, restarts, goes, spoils, stays, EachTold, none, call}
+use Rattle.theory.specs.Events.{Call, restart, event, taken, not-possible, Answer, answer, spoilt, stepReply, eventRule}
+use Rattle.theory.specs.Spoiling.{At, here, later, SpoiltBefore, SpoiltExactly, IsNotPossible, RuleSpoiltExactly}
 use Rattle.theory.proofs.Followers.{responds-some}
 use Rattle.theory.proofs.Events.{event-never-empties}
 
--- EACH CALL of the rule is told so
-step-told : (k : Bool) (a : ℕ) (w : View) (c : Bool)
-    → let r = cond k (reply keep (λ w. spoilt) true) (cond c (reply (go a) (told taken) false) (reply keep (told not-possible) true)) in
-    Told k (event a) (r .answer w) (r .kept w)
-step-told true a w c = stays
-step-told false a w true = goes
-step-told false a w false = spoils
+-- EACH CALL on a set with a member: whether the state is spoilt before it, the answer, whether it is spoilt after it
+data Told : Bool → Call → Answer → Bool → Type 0 where
+  restarts : {mark end : Bool} {offered : ℕ} → Told mark restart (answer taken end offered) false
+  goes : {a : ℕ} {end : Bool} {offered : ℕ} → Told false (event a) (answer taken end offered) false
+  spoils : {a : ℕ} {end : Bool} {offered : ℕ} → Told false (event a) (answer not-possible end offered) true
+  stays : {a : ℕ} → Told true (event a) spoilt true
+
+data EachTold : Bool → List Call → List Answer → Bool → Type 0 where
+  none : {k : Bool} → EachTold k [] [] k
+  call : {k l m : Bool} {c : Call} {x : Answer} {cs : List Call} {xs : List Answer}
+      → Told k c x l → EachTold l cs xs m → EachTold k (c ∷ cs) (x ∷ xs) m
+
+-- which the rule does
+step-told : (k c : Bool) (a : ℕ) (w : View) → let r = stepReply k c a in Told k (event a) (r .answer w) (r .kept w)
+step-told true c a w = stays
+step-told false true a w = goes
+step-told false false a w = spoils
 
 module _ {M : System} where
   responds-told : {P Q : StateSet M} {k l : Bool} {c : Call} {x : Answer} → Some M P → Responds eventRule M P k c x Q l → Told k c x l
   responds-told {c = restart} p r = rw (r .answer, r .kept) restarts
   responds-told {k = k} {c = event a} p r =
       let some = r .shown-before .some .1 p in
-      rw (rw some at (r .answer), rw some at (r .kept)) (step-told k a (r .after) (someIn (eqb a) (r .before .offered)))
+      rw (rw some at (r .answer), rw some at (r .kept)) (step-told k (someIn (eqb a) (r .before .offered)) a (r .after))
 
-  pub follows-told : {P Q : StateSet M} {k l : Bool} {cs : List Call} {xs : List Answer}
+  follows-told : {P Q : StateSet M} {k l : Bool} {cs : List Call} {xs : List Answer}
       → Some M P → Follows eventRule M P k cs xs Q l → EachTold k cs xs l
   follows-told p followers.none = none
   follows-told p (followers.call r f) = call (responds-told p r) (follows-told (responds-some eventRule M event-never-empties p r) f)
@@ -162,7 +172,7 @@ told-long none = refl
 told-long (call t f) = ap suc (told-long f)
 
 -- FROM A STATE THAT IS NOT SPOILT
-pub told-exactly : {m : Bool} {cs : List Call} {xs : List Answer} → EachTold false cs xs m → RuleSpoiltExactly cs xs
+told-exactly : {m : Bool} {cs : List Call} {xs : List Answer} → EachTold false cs xs m → RuleSpoiltExactly cs xs
 told-exactly {cs = cs} {xs = xs} f = record {
   long = told-long f;
   each = λ i x h. let r = each-told f i x h in (

@@ -13,7 +13,7 @@ use Rattle.theory.specs.Tests.{Decides, someIn}
 use Rattle.theory.specs.Systems.{System, Bisimulation, Lift}
 use Rattle.theory.specs.Transitions.{chartBy}
 use Rattle.theory.specs.Followers.{StateSet, SameMembers, Some, HoldsEnd, Next, Offered, View, Shows, keep, Responds, Follows, none, call}
-use Rattle.theory.specs.Events.{event, taken, Answer, spoilt, refused-53, told, reply, eventRule}
+use Rattle.theory.specs.Events.{event, taken, Answer, refused-53, told, reply, stepReply, eventRule}
 use Rattle.theory.specs.Ways.{Lower, at-once, later, Shortest, Ends, done, by, EndsFrom, EndsIn, ReachedIn, member, onward, FirstIn, LowestOf, AllTaken}
 use Rattle.theory.proofs.Search.{pigeonhole}
 use Rattle.theory.proofs.Systems.{identity, lift-equal}
@@ -106,7 +106,7 @@ module _ (M : System) where
   spoilt-stays [] none = refl
   spoilt-stays (a ∷ xs) (call r f) = spoilt-stays xs (rw (r .kept ∙ cases (r .before .some)) at f)
     where
-      cases : (b : Bool) → cond b (reply keep (λ w. spoilt) true) (reply keep (λ w. refused-53) true) .kept (r .after) ≡ true
+      cases : (b : Bool) → cond b (stepReply true false a) (reply keep (λ w. refused-53) true) .kept (r .after) ≡ true
       cases true = refl
       cases false = refl
 

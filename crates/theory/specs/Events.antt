@@ -28,14 +28,15 @@ abbrev pub reply : Effect → (View → Answer) → Bool → Response Answer Boo
 reply e x mark = record { effect = e; answer = x; kept = λ w. mark }
 
 -- an event where nothing is refused: on a spoilt state, with a target from some member, or without one
-abbrev pub stepReply : Bool → ℕ → View → Response Answer Bool
-stepReply mark a v =
+abbrev pub stepReply : (mark possible : Bool) → ℕ → Response Answer Bool
+stepReply mark possible a =
     cond mark (reply keep (λ w. spoilt) true)
-    (cond (someIn (eqb a) (v .offered)) (reply (go a) (told taken) false) (reply keep (told not-possible) true))
+    (cond possible (reply (go a) (told taken) false) (reply keep (told not-possible) true))
 
 abbrev pub replyTo : Bool → Call → View → Response Answer Bool
 replyTo mark restart v = reply fresh (told taken) false
-replyTo mark (event a) v = cond (v .some) (stepReply mark a v) (reply keep (λ w. refused-53) mark)
+replyTo mark (event a) v =
+    cond (v .some) (stepReply mark (someIn (eqb a) (v .offered)) a) (reply keep (λ w. refused-53) mark)
 
 abbrev pub eventRule : FollowerRule
 eventRule = record { Kept = Bool; Call = Call; Answer = Answer; response = replyTo }

@@ -1,11 +1,11 @@
 -- When "spoilt" is answered (document 02, C-15), read off a list of calls and its answers alone.
 use mathlib.Core.Path.{_≡_}
 use mathlib.Core.Logic.{_↔_}
-use mathlib.Core.Bool.{Bool, true, false}
-use mathlib.Core.List.{List, [], _∷_}
+use mathlib.Core.Bool.{Bool}
+use mathlib.Core.List.{List, _∷_}
 use Prim.Native.Nat.{ℕ, suc, _<_}
 use lib.ListN.{length}
-use Rattle.theory.specs.Events.{Call, restart, event, taken, not-possible, Answer, answer, spoilt}
+use Rattle.theory.specs.Events.{Call, restart, event, not-possible, Answer, answer, spoilt}
 
 -- at place i of a list, from 0, is x
 pub data At {A : Type 0} : ℕ → List A → A → Type 0 where
@@ -33,15 +33,3 @@ IsNotPossible x = (end : Bool) × (offered : ℕ) × (x ≡ answer not-possible 
 
 abbrev pub RuleSpoiltExactly : List Call → List Answer → Type 0
 RuleSpoiltExactly = SpoiltExactly (λ x. x ≡ spoilt) IsNotPossible
-
--- EACH CALL on a set with a member: whether the state is spoilt before it, the answer, whether it is spoilt after it
-pub data Told : Bool → Call → Answer → Bool → Type 0 where
-  restarts : {mark end : Bool} {offered : ℕ} → Told mark restart (answer taken end offered) false
-  goes : {a : ℕ} {end : Bool} {offered : ℕ} → Told false (event a) (answer taken end offered) false
-  spoils : {a : ℕ} {end : Bool} {offered : ℕ} → Told false (event a) (answer not-possible end offered) true
-  stays : {a : ℕ} → Told true (event a) spoilt true
-
-pub data EachTold : Bool → List Call → List Answer → Bool → Type 0 where
-  none : {k : Bool} → EachTold k [] [] k
-  call : {k l m : Bool} {c : Call} {x : Answer} {cs : List Call} {xs : List Answer}
-      → Told k c x l → EachTold l cs xs m → EachTold k (c ∷ cs) (x ∷ xs) m

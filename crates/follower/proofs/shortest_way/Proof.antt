@@ -1,10 +1,10 @@
 use mathlib.Core.Path.{sym, _∙_}
-use mathlib.Core.Logic.{⊎-elim}
 use native.Mathlib.Omega.{arith}
 use Rattle.bits.specs.Bits.{Bytes}
 use Rattle.chart.proofs.Checks.{well-formed}
 use Rattle.follower.specs.States.{stateIn}
 use Rattle.follower.specs.WayAnswers.{StatePasses}
+use Rattle.follower.proofs.Calls.{not-spoilt}
 use Rattle.follower.proofs.Finds.{read-held, fits-passes, ready-stage, ready-fits}
 use Rattle.follower.proofs.WayCalls.{both-sym, way-refused, way-unready, way-no-state, spoilt-way, found-way}
 use borrow.Author.Needs.{needs}
@@ -97,7 +97,7 @@ returns-5 c =
       fits = fits-passes (a .args .chart .now) (stateIn (a .args .state .now)) S .1
           (ready-fits (a .args .chart .now) (stateIn (a .args .state .now)) S (r .ready .ensures) (t .enum-told2 .given .1));
     } in
-    both-sym (found-way B D P (⊎-elim (λ u. u) (λ u. absurd (n .if2 .left u)) (P .fits .marked)) S (c .before .before .way-from .ensures))
+    both-sym (found-way B D P (not-spoilt (P .fits .marked) (n .if2 .left)) S (c .before .before .way-from .ensures))
 
 pub shortest-way-spec : {M : Type 1} → statement M
 shortest-way-spec =
