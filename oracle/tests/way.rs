@@ -4,7 +4,7 @@
 mod common;
 mod followers;
 mod ways;
-use common::{chart, files};
+use common::{all_lists, chart, files};
 use followers::FAST;
 use oracle::fast::shortest_way;
 use oracle::gen::lists::{state_with, State};
@@ -24,16 +24,6 @@ tests_of! { ways:
     order_of_refusals(shortest_way);
     a_line(shortest_way);
     at_the_limits(shortest_way);
-}
-
-/// Lists of so many of these actions, lower ones first.
-fn lists(actions: &[u8], length: usize) -> Vec<Vec<u8>> {
-    let mut lists = vec![Vec::new()];
-    for _ in 0..length {
-        let longer = |list: Vec<u8>| actions.iter().map(move |a| [&list[..], &[*a]].concat());
-        lists = lists.into_iter().flat_map(longer).collect();
-    }
-    lists
 }
 
 /// Whether the end is in the set after these events, and the run not spoilt.
@@ -63,7 +53,7 @@ fn tiny_chart(rng: &mut Rng) -> Vec<u8> {
 #[test]
 fn plain_is_the_first_of_all_lists() {
     let all: Vec<Vec<u8>> = (0..=4)
-        .flat_map(|length| lists(&[0, 1, 2, 3], length))
+        .flat_map(|length| all_lists(&[0, 1, 2, 3], length))
         .collect();
     let (mut without, mut lengths) = (0, [0; 4]);
     for seed in 0..files(2_000) {

@@ -178,6 +178,16 @@ pub fn all_states() -> Vec<Vec<u8>> {
     states
 }
 
+/// Lists of so many of these, in their order.
+pub fn all_lists<T: Copy>(of: &[T], length: usize) -> Vec<Vec<T>> {
+    let mut lists = vec![Vec::new()];
+    for _ in 0..length {
+        let longer = |list: Vec<T>| of.iter().map(move |x| [&list[..], &[*x]].concat());
+        lists = lists.into_iter().flat_map(longer).collect();
+    }
+    lists
+}
+
 /// What lent bytes hold before a call.
 pub fn pattern(length: usize) -> Vec<u8> {
     let mut rng = Rng::new(length as u64);

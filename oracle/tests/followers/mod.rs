@@ -2,7 +2,8 @@
 //! over accepted files against the published rules' follower.
 #![allow(dead_code)]
 use crate::common::{
-    all_states, chart, damage_chart, files, four_vertices, g, long_state, some_state, Seen,
+    all_lists, all_states, chart, damage_chart, files, four_vertices, g, long_state, some_state,
+    Seen,
 };
 use oracle::gen::lists::{events, offered, state_with, Call};
 use oracle::gen::{self, Rng};
@@ -217,16 +218,6 @@ pub fn spoilt_until_a_restart(follower: Follower, first: u64) {
         run_whole(&mut trial, &yard.chart, &list);
     }
     trial.saw(&RESTARTED, &FOLLOWED, 20, 40_000);
-}
-
-/// Lists of so many of these calls.
-fn all_lists(calls: &[Call], length: usize) -> Vec<Vec<Call>> {
-    let mut lists = vec![Vec::new()];
-    for _ in 0..length {
-        let longer = |list: Vec<Call>| calls.iter().map(move |c| [&list[..], &[*c]].concat());
-        lists = lists.into_iter().flat_map(longer).collect();
-    }
-    lists
 }
 
 /// Over a whole list from a fresh start, "spoilt" is answered at just the events
