@@ -13,14 +13,14 @@ use bits::tables::{put_row, row, united};
 use bits::{Set, bit_and, bit_and_not, bit_or, byte};
 
 // Steps, and the rows with one of them.
-#[derive(Drop)]
+#[derive(Clone, Copy)]
 pub struct Latest {
     pub steps: u64,
     pub rows: Set,
 }
 
 // Steps, rows that have a step for each transition, and what is known of the last steps.
-#[derive(Drop)]
+#[derive(Clone, Copy)]
 pub struct Matches {
     pub matched: u64,
     pub able: Set,
@@ -28,7 +28,7 @@ pub struct Matches {
 }
 
 // Rows that may be refused, and what is known.
-#[derive(Drop)]
+#[derive(Clone, Copy)]
 pub struct Refusals {
     pub rows: Set,
     pub known: Latest,

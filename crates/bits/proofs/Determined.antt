@@ -45,7 +45,7 @@ pub highest_byte_one : {bytes : List ℕ} {r t : ℕ} → HighestByte bytes r �
 highest_byte_one {bytes} {r} {t} H K = neither r t (lower H K) (lower K H)
   where
     lower : {x y : ℕ} → HighestByte bytes x → HighestByte bytes y → ¬ (x < y)
-    lower A B h = let (i, l, e) = B.is_byte_lem (omega (arith, h)) in omega (arith, h, e, A.above i)
+    lower A B h = let (i, l, e) = B.is_byte (omega (arith, h)) in omega (arith, h, e, A.above i)
 
 -- words by their bits
 pub with_one : {x k r t : ℕ} → With x k r → With x k t → r ≡ t

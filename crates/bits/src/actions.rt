@@ -7,7 +7,7 @@ ghost use Rattle.bits.specs.Actions.{action_count, ActionBytes};
 use super::{Set, read_set, set_bytes};
 
 // A set of the numbers below 256: `low` has those below 128, `high` the others, each less 128.
-#[derive(Drop)]
+#[derive(Clone, Copy)]
 pub struct Actions {
     pub low: Set,
     pub high: Set,

@@ -1,4 +1,6 @@
 // Bytes as numbers, sets of numbers as bits of bytes (document 01: relations, follower states), and words of 64 bits.
+#![tactic(auto)]
+
 mod actions;
 mod sets;
 pub mod tables;
@@ -14,7 +16,7 @@ pub use actions::{Actions, action_bytes, read_actions};
 pub use sets::{Marked, Set, fill_ones, read_set, set_bytes};
 
 // The numbers from one up to another.
-#[derive(Drop)]
+#[derive(Clone, Copy)]
 pub struct Span {
     pub from: usize,
     pub to: usize,

@@ -11,14 +11,14 @@ use super::{
 };
 
 // A set of the numbers below 128: bit k of `lo` for k, bit k of `hi` for 64 + k.
-#[derive(Drop)]
+#[derive(Clone, Copy)]
 pub struct Set {
     pub lo: u64,
     pub hi: u64,
 }
 
 // A set, and a number that has come into it.
-#[derive(Drop)]
+#[derive(Clone, Copy)]
 pub struct Marked {
     pub set: Set,
     pub at: usize,

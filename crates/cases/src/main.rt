@@ -1,6 +1,7 @@
 // Runs the cases of a table that it reads on standard input; the file `stdin` beside this folder is one, and says at
 // its head how it is written. Each call of a case writes the case's name, the call, the answer and whether it is the
 // expected one; the last line counts.
+#![tactic(auto)]
 mod answers;
 mod lines;
 mod records;
@@ -26,7 +27,7 @@ use words::{after, find, number, part, same};
 
 // The part that lines write to; where the case's name stands in the table; how many bytes are lent to the calls that
 // change some, the standing bytes or a follower's state; how many calls were run, and how many answered as expected.
-#[derive(Drop)]
+#[derive(Clone, Copy)]
 struct State {
     part: usize,
     name: usize,

@@ -1,4 +1,5 @@
 // Reads a yard file on standard input and writes the verdict on it, one line.
+#![tactic(auto)]
 use libc::{STDERR_FILENO, STDIN_FILENO, STDOUT_FILENO};
 use report::Numbers;
 

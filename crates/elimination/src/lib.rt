@@ -1,4 +1,5 @@
 // Taking out a loop, or several together: the refusals 50 to 52, 56 and 57, and the standing bytes after it.
+#![tactic(auto)]
 mod loop_list;
 mod walk;
 
@@ -228,7 +229,7 @@ fn range_by(chart: &[u8], begins: &[usize; 129], v: usize) -> Span
 }
 
 // What is said of the loops of a list one by one, and where each goes, what is in their bodies.
-#[derive(Drop)]
+#[derive(Clone, Copy)]
 struct Ruling {
     said: Removed,
     bodies: Set,

@@ -13,7 +13,7 @@ use chart::kept_row;
 use report::Stage;
 
 // The vertices that are past, for walks that stop at a vertex, and those of them that lead to it.
-#[derive(Drop)]
+#[derive(Clone, Copy)]
 pub struct Stops {
     pub past: Set,
     pub back: Set,
@@ -22,7 +22,7 @@ pub struct Stops {
 // Whether a cycle aside of the loop's start is reached, and where none is, of the body all that was not past; the
 // vertices that are past now, and those of them that lead to the start; and the vertices whose transitions are in the
 // table.
-#[derive(Drop)]
+#[derive(Clone, Copy)]
 pub struct Found {
     pub stray: bool,
     pub body: Set,

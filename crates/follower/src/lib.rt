@@ -1,5 +1,6 @@
 // The follower of events over a chart body: by value, over lent bytes, and with its state itself lent; and the shortest way
 // from its state to the end.
+#![tactic(auto)]
 mod ways;
 
 ghost use Rattle.std.specs.Prelude.{◌≡◌, true, ◌↔◌, length};
@@ -18,7 +19,7 @@ use report::{Followed, Place, Stage, Way};
 use ways::way_from;
 
 // The state: a set of vertices in sixteen bytes, bits as in a row of a relation, and a mark, 1 where it is spoilt, else 0.
-#[derive(Drop)]
+#[derive(Clone, Copy)]
 pub struct Follower {
     pub set: [u8; 16],
     pub mark: u8,
@@ -28,14 +29,14 @@ pub struct Follower {
 pub const STATE_SIZE: usize = 17;
 
 // What a call by value hands back: its answer, and the state after it.
-#[derive(Drop)]
+#[derive(Clone, Copy)]
 pub struct Moved {
     pub answer: Followed,
     pub follower: Follower,
 }
 
 // What an event makes of a set: whether it is taken, and the set after it.
-#[derive(Drop)]
+#[derive(Clone, Copy)]
 struct Stepped {
     taken: bool,
     set: Set,

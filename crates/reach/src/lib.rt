@@ -1,4 +1,5 @@
 // Reachability along a table of successors: a set for each vertex.
+#![tactic(auto)]
 ghost use Rattle.std.specs.Prelude.{◌≡◌, true, List, ℕ, ◌+◌, ◌*◌, ◌≤◌, ◌<◌, length};
 ghost use Rattle.bits.specs.Sets.{Has, Members};
 ghost use Rattle.bits.specs.Tables.{WholeSets};
@@ -11,7 +12,7 @@ use bits::tables::{clear, in_row, put_row, row, row_or_empty, united_from};
 use bits::{Set, Span};
 
 // What is seen, and those of it whose successors are seen too.
-#[derive(Drop)]
+#[derive(Clone, Copy)]
 pub struct Search {
     pub seen: Set,
     pub past: Set,

@@ -1,10 +1,12 @@
 // The answers, and document 01's number and values (n, p, q, r) for each of their cases.
+#![tactic(auto)]
+
 ghost use Rattle.std.specs.Prelude.{◌≡◌};
 ghost use Rattle.report.specs.Numbers.{four, place_numbers, verdict_numbers, written_numbers, removed_numbers};
 ghost use Rattle.report.specs.Numbers.{together_numbers, flag, followed_numbers, way_numbers, extracted_numbers};
 
 // A refusal of the check, or one that several calls share; it holds its place. One case for each number.
-#[derive(Drop)]
+#[derive(Clone, Copy)]
 pub enum Place {
     // 1: the file is too long
     File,
@@ -55,35 +57,35 @@ pub enum Place {
 }
 
 // What one stage of a check says.
-#[derive(Drop)]
+#[derive(Clone, Copy)]
 pub enum Stage {
     Passed,
     Refused(Place),
 }
 
 // What the checks of a labelling say: the number of loops, or a refusal.
-#[derive(Drop)]
+#[derive(Clone, Copy)]
 pub enum Labelled {
     Passed(usize),
     Refused(Place),
 }
 
 // The verdict on a yard file: accepted with its vertices, transitions and loops, or refused at a place.
-#[derive(Drop)]
+#[derive(Clone, Copy)]
 pub enum Verdict {
     Accepted(usize, usize, usize),
     Refused(Place),
 }
 
 // What writing the expression's chart answers: the length in bytes, or a refusal.
-#[derive(Drop)]
+#[derive(Clone, Copy)]
 pub enum Written {
     Length(usize),
     Refused(Place),
 }
 
 // What taking out a loop answers: done, or a refusal.
-#[derive(Drop)]
+#[derive(Clone, Copy)]
 pub enum Removed {
     Done,
     // 20, 21, 30: of the chart and the labels
@@ -97,7 +99,7 @@ pub enum Removed {
 }
 
 // What taking out several loops together answers: what the removal of one loop does, or a refusal of their list.
-#[derive(Drop)]
+#[derive(Clone, Copy)]
 pub enum Together {
     // done, 20, 21, 30, 50; 51 and 52 of the first loop that is refused
     Removal(Removed),
@@ -109,7 +111,7 @@ pub enum Together {
 
 // What an event or a restart answers: its word with whether the end is in the set and how many different actions the
 // set's vertices offer, or a refusal. "Spoilt" has no and 0 there.
-#[derive(Drop)]
+#[derive(Clone, Copy)]
 pub enum Followed {
     Taken(bool, usize),
     NotPossible(bool, usize),
@@ -119,7 +121,7 @@ pub enum Followed {
 }
 
 // What the shortest way answers: the length of the list, or a refusal.
-#[derive(Drop)]
+#[derive(Clone, Copy)]
 pub enum Way {
     Length(usize),
     // 20, 21: of the chart; 53: of the state; 54: lent output too short
@@ -129,7 +131,7 @@ pub enum Way {
 }
 
 // What writing the expression of a chart answers: the length in bytes, or a refusal.
-#[derive(Drop)]
+#[derive(Clone, Copy)]
 pub enum Extracted {
     Length(usize),
     // 20, 21: of the chart; 30 to 35: of the labelling; 54: lent output too short
@@ -140,7 +142,7 @@ pub enum Extracted {
 
 // The refusal's number, or 0 where nothing is refused, and three values.
 #[repr(C)]
-#[derive(Drop)]
+#[derive(Clone, Copy)]
 pub struct Numbers {
     pub n: u64,
     pub p: u64,

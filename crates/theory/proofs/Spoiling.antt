@@ -62,6 +62,7 @@ at_map f here = here
 at_map f (later h) = later (at_map f h)
 
 at_of_map : {A B : Type 0} (f : A → B) {i : ℕ} {y : B} (xs : List A) → At i (map f xs) y → (x : A) × At i xs x × (y ≡ f x)
+at_of_map f [] h = elim h [ ]
 at_of_map f (x ∷ xs) here = (x, here, refl)
 at_of_map f (x ∷ xs) (later h) = let (z, g, e) = at_of_map f xs h in (z, later g, e)
 
@@ -161,6 +162,7 @@ at_front {k} {c = c} {x} {y} {cs} {xs} t h = (to, from)
 
 each_told : {k m : Bool} {cs : List Call} {xs : List Answer} → EachTold k cs xs m → (i : ℕ) (x : Answer) → At i xs x
     → (x ≡ spoilt) ↔ (((a : ℕ) × At i cs (event a)) × (Before cs xs i ⊎ Ever k cs i))
+each_told none i x h = elim h [ ]
 each_told (call t f) zero x h = at_front t h
 each_told (call t f) (suc i) x (later h) =
     let r = each_told f i x h in (

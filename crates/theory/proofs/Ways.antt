@@ -192,8 +192,8 @@ module _ (M : System) where
     pub ends_reached : {x : M.State} {n k : ℕ} (m : ℕ) → ReachedIn M P k x → EndsIn M n x → k + n ≡ m
         → (z : M.State) × M.End z × ReachedIn M P m z
     ends_reached {x} {n} {k} m r ([], l, done e) q = (x, e, subst (λ (j : ℕ). ReachedIn M P j x) (omega (arith, l, q)) r)
-    ends_reached {n = n} m r (a ∷ xs, l, by s e) q =
-        ends_reached m (onward r s) (xs, refl, e) (omega (arith, l, q))
+    ends_reached {x} {n = n} m r (a ∷ xs, l, by {y = y} s e) q =
+        ends_reached {x = y} m (onward r s) (xs, refl, e) (omega (arith, l, q))
 
     -- a state to which a step leads from one that is first reached in n steps, and that none of n or fewer leads to
     pub first_more : {x y : M.State} {a n : ℕ} → M.Step x a y → FirstIn M P n x → ((k : ℕ) → k ≤ n → ¬ ReachedIn M P k y)
@@ -248,6 +248,7 @@ module _ (M : System) where
       L = lowest_among into back K
 
       lower : (ys : List ℕ) → length ys ≡ suc n → EndsFrom M P ys → ¬ Lower ys (a ∷ xs)
+      lower [] l e h = elim h [ ]
       lower (b ∷ ys) l e (at_once h) = let (y, p, f) = ends_next.0 e in below b h y p (ys, omega arith, f)
       lower (b ∷ ys) l e (later h) = L.none_lower ys (omega arith) (ends_next.0 e) h
 

@@ -1,4 +1,5 @@
 // Labellings: the checks 30 to 35, and the number of loops.
+#![tactic(auto)]
 mod levels;
 mod loop_checks;
 mod reached;

@@ -379,7 +379,7 @@ fn starting(all: bool, after: &[u64], v: usize, set: Set) -> Set
 
 // What is found of a vertex with loops: whether they pass; if they may not, which of its entries' targets return, and
 // inside, what these reach or more. For the next vertex: branches leave what is inside by `last` alone.
-#[derive(Drop)]
+#[derive(Clone, Copy)]
 pub struct Survey {
     pub passed: bool,
     pub back: Set,

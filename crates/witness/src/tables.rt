@@ -17,14 +17,14 @@ use bits::{Set, byte, count_bits, fill_ones, read_u32, read_u64};
 use report::Stage;
 
 // A set with what a run of transitions leads to, and the place after the run.
-#[derive(Drop)]
+#[derive(Clone, Copy)]
 pub struct Taken {
     pub set: Set,
     pub at: usize,
 }
 
 // Where the branches of a vertex lead to, and where its entries do.
-#[derive(Drop)]
+#[derive(Clone, Copy)]
 pub struct Outgoing {
     pub branches: Set,
     pub entries: Set,
