@@ -42,7 +42,7 @@ fits_test b standing n h e H = decides_same (to, from) (decides_and (decides_eqb
     from f = (
       f.long ∙ sym e,
       by_cases (ℕ_discrete h 0) (λ z. omega arith)
-          (λ z. let (i, l, q) = H.is_byte_lem (omega arith) in omega (arith, q, f.marks i (omega (arith, l, f.long)))),
+          (λ z. let (i, l, q) = H.is_byte (omega arith) in omega (arith, q, f.marks i (omega (arith, l, f.long)))),
     )
 
 -- where the standing entries of (v, l) lead: a level of 0 is that of branches

@@ -346,4 +346,4 @@ room_filled a b c d C R = record {
 -- the highest of some bytes is one
 pub top_below : {bytes : List ℕ} {top : ℕ} → Bytes bytes → HighestByte bytes top → top < 256
 top_below {top = top} B H = by_cases (ℕ_discrete top 0) (λ e. omega (arith, e))
-    (λ n. let (i, h, e) = H.is_byte_lem (omega (arith, n)) in omega (arith, B i, e))
+    (λ n. let (i, h, e) = H.is_byte (omega (arith, n)) in omega (arith, B i, e))

@@ -1,0 +1,50 @@
+use native.Mathlib.Omega.{arith}
+use Rattle.report.specs.declared.Stage.TheVariants as Stage
+use Rattle.bits.proofs.Visits.{visit_less, left_all, left_next, left_after_visit, left_some, left_none}
+use Rattle.chart.proofs.Order.{begin_order}
+use Rattle.chart.proofs.Rows.{looked_up, many_in}
+use Rattle.chart.proofs.Targets.{row_marks, offers_none, offers_more, offers_all}
+use Rattle.chart.proofs.images.offered.Goals as goal
+
+pub loop-u-init : goal.loop-u-init
+loop-u-init c =
+    let p = c.requires in (
+      p.0,
+      p.1,
+      left_all c.lowest-u.ensures,
+      offers_none,
+      λ k. omega (arith, c.type_inv.body k),
+    )
+
+pub part_of-requires : goal.part_of-requires
+part_of-requires c = let i = c.loop-u.invariant in (i.0, i.1, c.loop-u-test.true)
+
+pub many_of-requires : goal.many_of-requires
+many_of-requires c = let i = c.loop-u.invariant in (i.1.long, c.loop-u-test.true, begin_order i.1 _ c.loop-u-test.true)
+
+pub mark_row-requires : goal.mark_row-requires
+mark_row-requires c =
+    let i = c.loop-u.invariant in
+    (many_in (looked_up _ _ i.4 i.0 c.part_of.ensures) i.1 c.loop-u-test.true c.many_of.ensures, i.3.long)
+
+pub without_lowest-left-requires : goal.without_lowest-left-requires
+without_lowest-left-requires c = left_some c.loop-u.invariant.2 c.loop-u-test.true
+
+pub loop-u-smaller : goal.loop-u-smaller
+loop-u-smaller c =
+    visit_less (left_next c.loop-u.invariant.2 c.loop-u-test.true c.without_lowest-left.ensures)
+
+pub loop-u-preserved : goal.loop-u-preserved
+loop-u-preserved c =
+    let i = c.loop-u.invariant in
+    let T = left_next i.2 c.loop-u-test.true c.without_lowest-left.ensures in
+    let S = looked_up _ _ i.4 i.0 c.part_of.ensures in (
+      i.0,
+      i.1,
+      left_after_visit T c.lowest-u-in-loop-u.ensures,
+      offers_more T i.3 (row_marks S c.mark_row.ensures),
+      i.4,
+    )
+
+pub returns : goal.returns
+returns c = let i = c.loop-u.invariant in offers_all (left_none i.2 c.loop-u-test.false) i.3
