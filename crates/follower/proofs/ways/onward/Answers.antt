@@ -1,0 +1,13 @@
+use Rattle.follower.proofs.Walks.{onward_one, onward_more}
+use Rattle.follower.proofs.ways.onward.Goals as goal
+
+pub without_lowest-requires : goal.without_lowest-requires
+without_lowest-requires c = let o = c.requires.2 in λ e. e o.to o.member
+
+pub returns-then-is_empty : goal.returns-then-is_empty
+returns-then-is_empty c =
+    onward_one c.without_lowest.ensures (c.is_empty.ensures.0 c.if-is_empty.true)
+    c.requires.2
+
+pub returns : goal.returns
+returns c = onward_more c.image.ensures c.intersection.ensures
