@@ -114,7 +114,7 @@ module _ {v : ℕ} {E : Edges} where
       back_past = λ x h. (P x).1 (inr ((K x).0 h));
       leads_back = λ x h. (
         (λ k. rw ((K x).0 k) here),
-        (λ s. by_cases (ℕ_discrete x v) (λ e. (K x).1 e) (λ n. absurd (never x (rest x h n) s))),
+        (λ s. by_cases (ℕ_discrete x v) (λ e. (K x).1 e) (λ n. absurd (never x s (rest x h n)))),
       );
     }
       where
@@ -125,9 +125,9 @@ module _ {v : ℕ} {E : Edges} where
         off x h n e = (rest x h n).1 (own_back S (rest x h n).0 e)
 
         -- no path from the rest comes to v
-        never : (x : ℕ) → Has past x × (¬ Has back x) → ¬ Star (Avoid v E) x v
-        never x q here = out q
-        never x q (step (n, e) s) = never _ (rest_closed S x _ q.0 q.1 e) s
+        never : (x : ℕ) → Star (Avoid v E) x v → ¬ (Has past x × (¬ Has back x))
+        never x here q = out q
+        never x (step (n, e) s) q = never _ s (rest_closed S x _ q.0 q.1 e)
 
         stays : (x : ℕ) (p : Endless (Avoid v E) x) → Has past x × (¬ Has back x) → (k : ℕ) → Has past (p.at k) × (¬ Has back (p.at k))
         stays x p q zero = rw p.first q
