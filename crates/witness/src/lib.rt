@@ -1,5 +1,6 @@
 // Labellings: the checks 30 to 35, and the number of loops.
 #![tactic(auto)]
+
 mod levels;
 mod loop_checks;
 mod reached;

@@ -62,7 +62,7 @@ returns-in_default c =
     let to = loop_targets i.3 i.4.low l c.row-to.ensures in
     let both = c.intersection.ensures in
     let given = loop_given i.0 p.1.2 p.2 p.1.3 i.4 l to both c.closure_from-seen.ensures in
-    vertex_stop i.4 c.enum_told-in_default-1.given.1 l (c.loop_check-said.ensures _ _ given)
+    vertex_stop i.4 c.in_default.is l (c.loop_check-said.ensures _ _ given)
 
 pub next_level-level-requires-in-loop-level : goal.next_level-level-requires-in-loop-level
 next_level-level-requires-in-loop-level c =

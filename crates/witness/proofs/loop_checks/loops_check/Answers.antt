@@ -76,7 +76,7 @@ vertex_check-said-requires c =
 pub returns-in_default : goal.returns-in_default
 returns-in_default c =
     let i = c.loop-v.invariant in
-    past_stop i.6 i.5.lowest c.enum_told-in_default-1.given.1 c.vertex_check-said.ensures
+    past_stop i.6 i.5.lowest c.in_default.is c.vertex_check-said.ensures
 
 pub without_lowest-left-requires : goal.without_lowest-left-requires
 without_lowest-left-requires c =

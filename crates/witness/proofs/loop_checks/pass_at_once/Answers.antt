@@ -46,5 +46,5 @@ returns c = λ e.
     let d = rw c.row_or_empty.ensures at c.difference-others.ensures in
     let below = c.below_level.ensures c.if-not-below_level.false in
     let w = well_formed _ p.0.passed in
-    vertex_passes_lem w p.1.1 p.2 p.4 d p.1.2 p.3 (λ c. omega (arith, c.type_inv.labels c))
+    vertex_passes_lem w p.1.1 p.2 p.4 d p.1.2 p.3 (λ i. omega (arith, c.type_inv.labels i))
     (_, p.5, below) c.reaches_below-all.ensures (c.entries_pass.ensures e)

@@ -10,9 +10,7 @@ collect_singly-requires c =
 
 pub returns-then-labels-lt128 : goal.returns-then-labels-lt128
 returns-then-labels-lt128 c = λ top.
-    room_filled c.next-1.given
-    c.branches-1.given c.entries-1.given
-    c.entered-1.given c.collect_singly.ensures
+    room_filled (omega arith) (omega arith) (omega arith) (omega arith) c.collect_singly.ensures
 
 pub byte-n-requires : goal.byte-n-requires
 byte-n-requires c =
@@ -33,6 +31,4 @@ collect_runs-requires c =
 
 pub returns : goal.returns
 returns c = λ top.
-    room_filled c.next-2-1.given
-    c.branches-2-1.given c.entries-2-1.given
-    c.entered-2-1.given c.collect_runs.ensures
+    room_filled (omega arith) (omega arith) (omega arith) (omega arith) c.collect_runs.ensures

@@ -39,26 +39,26 @@ put_row-requires-in-loop-u c =
 pub put_row-requires-in-loop-u-2 : goal.put_row-requires-in-loop-u-2
 put_row-requires-in-loop-u-2 c =
     let l = c.loop-u in
-    let i = l.inv in
-    let p = c.pre in
-    omega (arith, c.loop-u-test.taken, p.5, i.7)
+    let i = l.invariant in
+    let p = c.requires in
+    omega (arith, c.loop-u-test.true, p.5, i.7)
 
 pub overflow_add-u : goal.overflow_add-u
 overflow_add-u c =
-    let i = c.loop-u.inv in
-    omega (arith, i.1, i.0.header.vertices_high, c.loop-u-test.taken)
+    let i = c.loop-u.invariant in
+    omega (arith, i.1, i.0.header.vertices_high, c.loop-u-test.true)
 
 pub loop-u-preserved : goal.loop-u-preserved
 loop-u-preserved c =
     let l = c.loop-u in
-    let i = l.inv in
+    let i = l.invariant in
     let r = c.outgoing_of-out.ensures in
     let U = c.union.ensures in
     let N = c.put_row.ensures in
     let B = c.put_row-in-loop-u.ensures in
     let E = c.put_row-in-loop-u-2.ensures in
-    let p = c.pre in
-    let k = c.loop-u-test.taken in (
+    let p = c.requires in
+    let k = c.loop-u-test.true in (
       i.0,
       i.1,
       omega arith,
