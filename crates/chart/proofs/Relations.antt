@@ -1,6 +1,6 @@
 -- From bytes to the theory's relations.
 use mathlib.Core.Path.{◌≡◌, refl, sym, ap, ◌∙◌}
-use mathlib.Core.Logic.{◌↔◌, ◌⊎◌, inl, inr, ⊎_elim, by_cases}
+use mathlib.Core.Logic.{◌↔◌, inl, inr, ⊎_elim, by_cases}
 use mathlib.Core.Bool.{true}
 use mathlib.Core.List.Memᴰ
 use mathlib.Core.List.{List, Memᴰ}
@@ -14,7 +14,6 @@ use Rattle.theory.specs.Ascending.{Ascending}
 use Rattle.theory.specs.Charts.{SameSteps, Formed, Listed, Any}
 use Rattle.theory.specs.LabelledCharts.{labelled_steps}
 use Rattle.theory.specs.Relations.{indexed}
-use Rattle.theory.specs.Systems.{System}
 use Rattle.theory.specs.Transitions.{Transition, precedes}
 use Rattle.theory.proofs.Search.{look_below}
 use Rattle.bits.specs.Bits.{Bytes}

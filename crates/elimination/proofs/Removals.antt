@@ -20,7 +20,6 @@ use Rattle.theory.proofs.Removals.{one_answer}
 use Rattle.theory.proofs.MultiSteps.{chart_goes}
 use Rattle.report.specs.declared.Removed.{Removed}
 use Rattle.report.specs.declared.Removed.TheVariants.{Done, Refused, StandingBytes, NoEntry, NotLoop}
-use Rattle.report.specs.declared.Place.{Place}
 use Rattle.report.specs.declared.Stage.{Stage}
 use Rattle.report.specs.declared.Stage.TheVariants as stage
 use Rattle.bits.specs.Bits.{Bytes}

@@ -1,5 +1,6 @@
 // Taking out a loop, or several together: the refusals 50 to 52, 56 and 57, and the standing bytes after it.
 #![tactic(auto)]
+
 mod loop_list;
 mod walk;
 

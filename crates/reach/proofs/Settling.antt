@@ -1,6 +1,6 @@
 -- Rounds: a vertex that leads to settled ones alone is settled too.
 use mathlib.Core.Path.{◌≡◌, refl, sym, ◌∙◌, subst}
-use mathlib.Core.Logic.{◌≢◌, ◌⊎◌, inl, inr, ⊎_elim, ◌↔◌}
+use mathlib.Core.Logic.{◌⊎◌, inl, inr, ⊎_elim, ◌↔◌}
 use mathlib.Core.List.{List}
 use Prim.Native.Nat.{ℕ, ◌+◌, ◌*◌, ◌≤◌, ◌<◌}
 use native.Mathlib.Omega.{arith}
@@ -14,7 +14,7 @@ use Rattle.bits.proofs.Visits.{Visit}
 use Rattle.theory.specs.Paths.{Plus, last, more}
 use Rattle.theory.proofs.Paths.{plus_star}
 use Rattle.reach.specs.Searches.{Leads, FromSet, OnCycle, ReachedIn, TurnReaches, Settled, Settles, SettledBut, Cycles}
-use Rattle.reach.proofs.Searches.{some_member, all_in, stays, joined_turn}
+use Rattle.reach.proofs.Searches.{some_member, stays, joined_turn}
 
 -- of a part of the set too
 pub reached_part : {a after : List ℕ} {s t : Set} → Settled a after s → ((x : ℕ) → Has t x → Has s x) → ReachedIn a after t

@@ -1,5 +1,6 @@
 // Reachability along a table of successors: a set for each vertex.
 #![tactic(auto)]
+
 ghost use Rattle.std.specs.Prelude.{◌≡◌, true, List, ℕ, ◌+◌, ◌*◌, ◌≤◌, ◌<◌, length};
 ghost use Rattle.bits.specs.Sets.{Has, Members};
 ghost use Rattle.bits.specs.Tables.{WholeSets};

@@ -1,5 +1,4 @@
 use native.Mathlib.Omega.{arith}
-use Rattle.report.specs.declared.Stage.TheVariants as Stage
 use Rattle.bits.proofs.Visits.{visit_less, left_all, left_next, left_after_visit, left_some, left_none}
 use Rattle.chart.proofs.Order.{begin_order}
 use Rattle.chart.proofs.Rows.{looked_up, leaving_row, many_in}

@@ -1,7 +1,6 @@
 use mathlib.Core.Path.{refl}
 use native.Mathlib.Omega.{arith}
 use Rattle.theory.proofs.Tests.{decides_not}
-use Rattle.report.specs.declared.Stage.TheVariants as Stage
 use Rattle.bits.proofs.Members.{size_few}
 use Rattle.elimination.proofs.Entries.{kept_low}
 use Rattle.elimination.proofs.Walking.{walking_none, walking_on, walking_back, walking_more, walking_ended, walking_long}
