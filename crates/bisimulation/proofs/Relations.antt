@@ -2,7 +2,7 @@
 use mathlib.Core.Path.{◌≡◌, refl, ap, subst}
 use mathlib.Core.Logic.{◌≢◌, ◌⊎◌, inl, inr, ◌↔◌}
 use mathlib.Core.Bool.{Bool, true, false, cond}
-use mathlib.Core.List.{List, Memᴰ}
+use mathlib.Core.List.{List}
 use Prim.Native.Nat.{ℕ, ◌*◌, ◌≤◌, ◌<◌}
 use native.Mathlib.Omega.{arith}
 use lib.Dec.{eqb, ltb}
@@ -19,7 +19,6 @@ use Rattle.report.specs.declared.Place.TheVariants.{RelationLength, PairNoVertex
 use Rattle.report.specs.declared.Stage.{Stage}
 use Rattle.report.specs.declared.Stage.TheVariants.{Passed, Refused}
 use Rattle.chart.specs.Bodies.{vertices_of, start_of}
-use Rattle.chart.specs.Steps.{transitions_of}
 use Rattle.chart.specs.Systems.{system_of, indexed_of}
 use Rattle.chart.proofs.Relations.{indexed_member}
 use Rattle.bisimulation.specs.Relations.{related_test, stray_bit_test, relation_stage, relation_outcome_of, relation_of}

@@ -1,5 +1,6 @@
 // Relations between the expression's chart and the file's chart: the checks 40 to 45.
 #![tactic(auto)]
+
 mod classes;
 mod clearing;
 mod pairs;

@@ -1,6 +1,7 @@
 // Kind 1: the checks of an expression's nodes, the steps of its chart as numbers, and the chart written as a chart
 // body.
 #![tactic(auto)]
+
 mod body;
 pub mod nodes;
 mod ranks;

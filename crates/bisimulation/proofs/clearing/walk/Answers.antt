@@ -1,7 +1,7 @@
-use mathlib.Core.Logic.{⊎_elim}
 use Rattle.bisimulation.proofs.RunLaws.{source_from}
 use Rattle.bisimulation.proofs.ClearLaws.{walk_none, walk_first, walk_same, walk_more, walk_run, walk_all}
 use native.Mathlib.Omega.{arith}
+use Rattle.bisimulation.proofs.clearing.walk.Goals.{then-next-last, else-next-last}
 use Rattle.bisimulation.proofs.clearing.walk.Goals as goal
 
 pub returns-then-a-b : goal.returns-then-a-b
@@ -59,14 +59,17 @@ loop-i-preserved c =
       i.2,
       E.within,
       walk_run
-          (⊎_elim
-          (λ (t, g, un, ib, ei, q₁, q₂, q₃, q₄).
-          rw (q₂, q₃, q₄) (walk_more i.4 n.result n.ensures ei.result ei.ensures un.ensures ib.ensures))
-          (λ (t, q₁, q₂, q₃, q₄). rw (q₂, q₃, q₄) (walk_same i.4 n.result n.ensures t.left))
-          c.if-next-last.branch)
+          (elim c.if-next-last.branch [
+            | then-next-last w ↦
+                rw (w.matched-is, w.last-is, w.able-is) (walk_more i.4 n.result n.ensures w.bit_or-matched.result w.bit_or-matched.ensures w.united-rows.ensures w.intersection-able-then-next-last.ensures)
+            | else-next-last w ↦
+                rw (w.matched-is, w.last-is, w.able-is) (walk_same i.4 n.result n.ensures w.if-next-last.false)
+          ])
           i.4.from E,
-      ⊎_elim (λ (t, g, un, ib, ei, q₁, q₂, q₃, q₄). rw (q₁, q₃) un.ensures) (λ (t, q₁, q₂, q₃, q₄). rw (q₁, q₃) i.5)
-          c.if-next-last.branch,
+      elim c.if-next-last.branch [
+        | then-next-last w ↦ rw (w.rows-is, w.last-is) w.united-rows.ensures
+        | else-next-last w ↦ rw (w.rows-is, w.last-is) i.5
+      ],
       i.6,
       i.7,
     )

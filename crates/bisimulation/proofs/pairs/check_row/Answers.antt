@@ -13,7 +13,7 @@ pub suspect_pair-answer-requires : goal.suspect_pair-answer-requires
 suspect_pair-answer-requires c = let i = c.loop-v.invariant in (i.0, i.1, i.2, omega (arith, i.3, c.loop-v-test.true))
 
 pub returns-in_default : goal.returns-in_default
-returns-in_default c = λ e relation S. row_stop c.enum_told-in_default-1.given.1 (c.suspect_pair-answer.ensures e relation S) (c.loop-v.invariant.4 e relation S)
+returns-in_default c = λ e relation S. row_stop c.in_default.is (c.suspect_pair-answer.ensures e relation S) (c.loop-v.invariant.4 e relation S)
 
 pub loop-v-preserved : goal.loop-v-preserved
 loop-v-preserved c =

@@ -20,7 +20,7 @@ pub suspect_row-answer-requires : goal.suspect_row-answer-requires
 suspect_row-answer-requires c = let i = c.loop-u.invariant in (i.0, i.1, omega (arith, i.2, c.loop-u-test.true), i.3)
 
 pub returns-in_default : goal.returns-in_default
-returns-in_default c = λ e relation S q z. rows_stop c.enum_told-in_default-1.given.1 (c.suspect_row-answer.ensures e relation S) z (c.loop-u.invariant.4 e relation S)
+returns-in_default c = λ e relation S q z. rows_stop c.in_default.is (c.suspect_row-answer.ensures e relation S) z (c.loop-u.invariant.4 e relation S)
 
 pub loop-u-preserved : goal.loop-u-preserved
 loop-u-preserved c =

@@ -1,4 +1,5 @@
 use mathlib.Core.Bool.{false≢true}
+use borrow.Author.Tests.{not-false}
 use Rattle.chart.proofs.Order.{begin_order, begin_high}
 use Rattle.bisimulation.proofs.PairChecks.{decides_ends}
 use Rattle.bisimulation.proofs.small.pair_passes.Goals as goal
@@ -13,4 +14,4 @@ word_passes-requires c =
 
 pub returns : goal.returns
 returns c =
-    λ h. ((decides_ends _ _).0 c.if-u-v.false, c.word_passes.ensures h)
+    λ h. ((decides_ends c.args.u c.args.v).0 (not-false _ c.if-u-v.false), c.word_passes.ensures h)

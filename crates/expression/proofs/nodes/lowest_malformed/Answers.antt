@@ -1,6 +1,5 @@
 use mathlib.Core.Path.{sym, ◌∙◌}
 use native.Mathlib.Omega.{arith}
-use Rattle.expression.specs.Table.{node_ok}
 use Rattle.expression.proofs.Table.{lowest_step, lowest_stop, lowest_end, malformed_start}
 use Rattle.expression.proofs.nodes.lowest_malformed.Goals as goal
 
