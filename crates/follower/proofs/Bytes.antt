@@ -12,7 +12,7 @@ use borrow.Author.Tests.{lt-ltb}
 use Rattle.theory.specs.Ascending.{Below, Ascending}
 use Rattle.theory.specs.Tests.{Decides, some_in}
 use Rattle.theory.proofs.Tests.{decides_listed}
-use Rattle.bits.specs.Bits.{has_bit, set_bytes, list_from}
+use Rattle.bits.specs.Bits.{has_bit, list_from}
 use Rattle.bits.proofs.SetBytes.{set_bit}
 use Rattle.follower.specs.declared.Follower.{Follower}
 use Rattle.follower.specs.States.{InState, members_of, set_of}

@@ -3,7 +3,7 @@ use Prim.Native.Nat.{ℕ, ◌<◌, ◌≤◌}
 use mathlib.Core.Path.{◌≡◌, refl, sym, ap, ap₂, ◌∙◌}
 use mathlib.Core.Logic.Iff
 use mathlib.Core.Logic.{◌≢◌, ◌⊎◌, inl, inr, ⊎_elim, ◌↔◌, by_cases}
-use mathlib.Core.Bool.{Bool, true, false, cond, true≢false}
+use mathlib.Core.Bool.{Bool, true, false, true≢false}
 use mathlib.Core.List.Memᴰ
 use mathlib.Core.List.{List, [], ◌∷◌, ◌++◌, Memᴰ}
 use native.Mathlib.Decide.{ℕ_discrete}
@@ -22,7 +22,7 @@ use Rattle.theory.proofs.Followers.{shows_carried, responds_agree, responds_carr
 use Rattle.theory.proofs.Events.{restart_taken, event_taken, event_not_possible, event_spoilt, event_never_empties}
 use Rattle.theory.proofs.Runs.{view_shows, call_responds, chart_machine_lem}
 use Rattle.report.specs.declared.Followed.{Followed}
-use Rattle.report.specs.declared.Followed.TheVariants.{Taken, NotPossible, Spoilt, Refused}
+use Rattle.report.specs.declared.Followed.TheVariants.{Taken, NotPossible, Refused}
 use Rattle.report.specs.declared.Place.{Place}
 use Rattle.report.specs.declared.Place.TheVariants as place
 use Rattle.report.specs.declared.Stage.{Stage}
@@ -50,7 +50,7 @@ use Rattle.follower.proofs.Bytes.{members_are, set_has}
 -- STATES with the same vertices and the same mark are the same
 pub same_state : {f g : Follower} → Formed f → Formed g → ((v : ℕ) → InState f v ↔ InState g v) → f.mark ≡ g.mark → f ≡ g
 same_state {f} {g} F G e m =
-    let s = same_bytes_lem f.set g.set F.sixteen G.sixteen F.bytes G.bytes
+    let s = same_bytes_lem 16 f.set g.set F.sixteen G.sixteen F.bytes G.bytes
     (λ v h. test_one (has_bit f.set v) (has_bit g.set v) (λ i. ((e v).0 (h, i)).1, λ i. ((e v).1 (h, i)).1) Iff.rfl) in
     λ i. record { set = s i; mark = m i }
 

@@ -3,20 +3,19 @@ use Prim.Native.Nat.{ℕ, ◌*◌, ◌+◌, ◌≤◌, ◌<◌}
 use mathlib.Core.Path.{◌≡◌, refl, sym, ap, ◌∙◌, subst}
 use mathlib.Core.Logic.Iff
 use mathlib.Core.Logic.{◌↔◌, by_cases}
-use mathlib.Core.Bool.{true, false, true≢false}
+use mathlib.Core.Bool.{true≢false}
 use mathlib.Core.List.Memᴰ
 use mathlib.Core.List.{List, map, Memᴰ, ◌++◌}
 use native.Mathlib.Decide.{ℕ_discrete, dec_lt}
 use native.Mathlib.Nat.{le_refl}
 use native.Mathlib.Omega.{arith}
 use lib.ListN.{length, drop}
-use lib.Dec.{eqb}
 use borrow.Author.Tests.{eq-eqb, ne_eqb, lt-ltb, le-ltb}
 use Rattle.theory.specs.Least.{Least}
 use Rattle.theory.specs.Systems.{System}
 use Rattle.theory.specs.Events.{event}
 use Rattle.theory.specs.Runs.{Machine, system, MembersOf}
-use Rattle.theory.specs.Ways.{Shortest, EndsFrom, LowestOf}
+use Rattle.theory.specs.Ways.{EndsFrom, LowestOf}
 use Rattle.theory.proofs.Search.{least_one}
 use Rattle.theory.proofs.Tests.{decided}
 use Rattle.theory.proofs.Systems.{lift_equal}

@@ -1,6 +1,7 @@
 // The follower of events over a chart body: by value, over lent bytes, and with its state itself lent; and the shortest way
 // from its state to the end.
 #![tactic(auto)]
+
 mod ways;
 
 ghost use Rattle.std.specs.Prelude.{◌≡◌, true, ◌↔◌, length};

@@ -4,9 +4,6 @@ use native.Mathlib.Omega.{arith}
 use Rattle.follower.proofs.Finds.{fits_not, fits_highest}
 use Rattle.follower.proofs.state_fits.Goals as goal
 
-pub returns-then-mark-gt1 : goal.returns-then-mark-gt1
-returns-then-mark-gt1 c = fits_not (λ (s, m). omega (arith, m, c.if-mark-gt1.true))
-
 pub returns-then-is_empty : goal.returns-then-is_empty
 returns-then-is_empty c = fits_not (λ (s, m). s.0 (c.is_empty.ensures.0 c.if-is_empty.true))
 
@@ -14,4 +11,4 @@ pub with_highest-highest-requires : goal.with_highest-highest-requires
 with_highest-highest-requires c = λ e. true≢false (sym (c.is_empty.ensures.1 e) ∙ c.if-is_empty.false)
 
 pub returns : goal.returns
-returns c = fits_highest c.if-mark-gt1.false c.with_highest-highest.ensures.0
+returns c = fits_highest (omega arith) c.with_highest-highest.ensures.0
