@@ -1,5 +1,5 @@
 -- The yard file: four records of kinds 1 to 4, nothing after; and the refusals 1 to 4, as a test and by cases.
-use Rattle.std.specs.Prelude.{cond, List, [], ◌∷◌, ◌++◌, ◌≡◌, ◌≢◌, ℕ, zero, suc, ◌+◌, ◌*◌, ◌/◌, ◌%◌, ◌<◌, ◌≤◌, eqb, ltb, length, get_or, take, drop}
+use Rattle.std.specs.Prelude.{cond, List, [], ◌∷◌, ◌++◌, ◌≡◌, ◌≢◌, ℕ, zero, suc, ◌+◌, ◌/◌, ◌%◌, ◌<◌, ◌≤◌, eqb, ltb, length, take, drop}
 use Rattle.bits.specs.Packed.{two_at}
 use Rattle.report.specs.declared.Place.TheVariants.{File, Record, RecordKind, FileOffset}
 use Rattle.report.specs.declared.Stage.{Stage}

@@ -1,5 +1,6 @@
 // Yard files: the four records [1-4], and the whole check.
 #![tactic(auto)]
+
 ghost use Rattle.std.specs.Prelude.{◌≡◌, ◌+◌, ◌≤◌, ◌<◌, length};
 ghost use Rattle.expression.specs.Body.{body_of};
 ghost use Rattle.expression.specs.Targets.{Targets};

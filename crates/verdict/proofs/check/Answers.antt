@@ -10,37 +10,36 @@ use Rattle.verdict.proofs.check.Goals as goal
 
 pub returns-in_default : goal.returns-in_default
 returns-in_default c =
-    let h = c.enum_told-in_default-1.given.1 in
+    let h = c.in_default.is in
     c.refusal.ensures _ h ∙ sym (fails_refused _ (records_fail (sym c.records-stage.ensures ∙ h)))
 
 pub body-nodes-requires : goal.body-nodes-requires
-body-nodes-requires a =
-    let R = sym a.before.before.records.ensures ∙ a.enum_told.given.1 in
+body-nodes-requires c =
+    let R = sym c.records-stage.ensures ∙ c.in-Passed.is in
     (R, omega arith)
 
 pub returns-in_default-stage : goal.returns-in_default-stage
 returns-in_default-stage c =
     let R = sym c.records-stage.ensures ∙ c.in-Passed.is in
-    let h = c.in-Passed.is in
+    let h = c.in_default-stage.is in
     let N = stage_in expression.check_of c.body-nodes.ensures c.check_with_targets-stage.ensures.0 h in
     c.refusal-in_default-stage.ensures _ h ∙ sym (fails_refused _ (nodes_fail R N))
 
 pub body-chart-requires : goal.body-chart-requires
-body-chart-requires b =
-    let a = b.before.before.before.before.before in
-    let R = sym a.before.before.records.ensures ∙ a.enum_told.given.1 in
+body-chart-requires c =
+    let R = sym c.records-stage.ensures ∙ c.in-Passed.is in
     (R, omega arith)
 
 pub returns-in_default-stage-2 : goal.returns-in_default-stage-2
 returns-in_default-stage-2 c =
     let R = sym c.records-stage.ensures ∙ c.in-Passed.is in
     let N = stage_in expression.check_of c.body-nodes.ensures c.check_with_targets-stage.ensures.0 c.in-Passed-stage.is in
-    let h = c.in-Passed-stage.is in
+    let h = c.in_default-stage-2.is in
     let C = stage_in chart.check_of c.body-chart.ensures c.check-stage.ensures h in
     c.refusal-in_default-stage-2.ensures _ h ∙ sym (fails_refused _ (chart_fails R N C))
 
 pub begins-begins-requires : goal.begins-begins-requires
-begins-begins-requires d = sym d.before.before.check.ensures ∙ d.enum-told5.given.1
+begins-begins-requires c = sym c.check-stage.ensures ∙ c.in-Passed-stage-2.is
 
 pub body-requires : goal.body-requires
 body-requires c =
@@ -56,7 +55,7 @@ returns-in_default-labelled c =
     let R = sym c.records-stage.ensures ∙ c.in-Passed.is in
     let N = stage_in expression.check_of c.body-nodes.ensures c.check_with_targets-stage.ensures.0 c.in-Passed-stage.is in
     let C = stage_in chart.check_of c.body-chart.ensures c.check-stage.ensures c.in-Passed-stage-2.is in
-    let h = c.in-Passed-stage-2.is in
+    let h = c.in_default-labelled.is in
     let L = labelling_in _ c.body-chart.ensures c.body.ensures c.check-labelled.ensures h in
     c.unlabelled.ensures _ h ∙ sym (fails_refused _ (labels_fail R N C L))
 
@@ -80,7 +79,7 @@ returns-in_default-stage-3 c =
     let C = stage_in chart.check_of c.body-chart.ensures c.check-stage.ensures c.in-Passed-stage-2.is in
     let L = labelling_in _ c.body-chart.ensures c.body.ensures c.check-labelled.ensures
     c.in-Passed-labelled.is in
-    let h = c.in-Passed-labelled.is in
+    let h = c.in_default-stage-3.is in
     let B = relation_in_lem _ c.body-chart.ensures c.body-nodes.ensures
     c.body-2.ensures c.check_relation-stage.ensures h in
     c.refusal-in_default-stage-3.ensures _ h ∙ sym (fails_refused _ (relation_fails R N C L B))

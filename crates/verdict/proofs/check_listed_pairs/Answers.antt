@@ -9,17 +9,16 @@ pub list_steps-m-requires : goal.list_steps-m-requires
 list_steps-m-requires c = let p = c.requires in (p.0.both.0, p.1, refl, refl)
 
 pub doubtful-suspects-requires : goal.doubtful-suspects-requires
-doubtful-suspects-requires c =
-    (
-      c.requires.0.both.1,
-      c.requires.2,
-      (
-        body_of c.args.nodes.now,
-        listed_chart (λ i. omega (arith, c.type_inv.nodes i))
-            c.requires.0
-            c.list_steps-m.ensures,
-      ),
-    )
+doubtful-suspects-requires c = (
+  c.requires.0.both.1,
+  c.requires.2,
+  (
+    body_of c.args.nodes.now,
+    listed_chart (λ i. omega (arith, c.type_inv.nodes i))
+        c.requires.0
+        c.list_steps-m.ensures,
+  ),
+)
 
 pub returns-then-is_empty : goal.returns-then-is_empty
 returns-then-is_empty c =

@@ -11,7 +11,7 @@ opening-stage-requires c = (c.requires.0.1, nodes_few _ c.requires.0.0, omega ar
 pub returns-in_default : goal.returns-in_default
 returns-in_default c =
     let n = c.args.nodes.now in
-    opening_refused (body_of n) _ _ _ _ (nodes_vertices n) (nodes_start n) c.opening-stage.ensures c.enum_told-in_default-1.given.1
+    opening_refused (body_of n) _ _ _ _ (nodes_vertices n) (nodes_start n) c.opening-stage.ensures c.in_default.is
 
 pub check_listed_pairs-requires : goal.check_listed_pairs-requires
 check_listed_pairs-requires c =

@@ -12,23 +12,23 @@ loop-kind-init c = (records_from_lem _ (omega arith), omega arith, omega arith, 
 pub returns-in_default : goal.returns-in_default
 returns-in_default c =
     let l = c.loop-kind in
-    let (p, e) = c.enum_told-in_default-1.given in
-    e ∙ sym (from_stop _ _ _ _ c.loop-kind-test.true (sym e ∙ c.before.before.«record».ensures)) ∙ l.invariant.0
+    let e = c.in_default.is in
+    e ∙ sym (from_stop _ _ _ _ c.loop-kind-test.true (sym e ∙ c.record-stage.ensures)) ∙ l.invariant.0
 
 pub overflow_add-at : goal.overflow_add-at
-overflow_add-at c = omega (arith, fits_at_lem _ _ _ _ c.before.before.«record».ensures c.in-Passed.is)
+overflow_add-at c = omega (arith, fits_at_lem _ _ _ _ c.record-stage.ensures c.in-Passed.is)
 
 pub read_u16-requires : goal.read_u16-requires
-read_u16-requires c = omega (arith, fits_at_lem _ _ _ _ c.before.before.«record».ensures c.in-Passed.is)
+read_u16-requires c = omega (arith, fits_at_lem _ _ _ _ c.record-stage.ensures c.in-Passed.is)
 
 pub overflow_add-at-in-loop-kind : goal.overflow_add-at-in-loop-kind
-overflow_add-at-in-loop-kind c = omega (arith, fits_at_lem _ _ _ _ c.before.before.before.«record».ensures c.in-Passed.is, c.read_u16.ensures)
+overflow_add-at-in-loop-kind c = omega (arith, fits_at_lem _ _ _ _ c.record-stage.ensures c.in-Passed.is, c.read_u16.ensures)
 
 pub loop-kind-preserved : goal.loop-kind-preserved
 loop-kind-preserved c =
     let l = c.loop-kind in
-    let e = sym c.in-Passed.is ∙ d.before.before.«record».ensures in
-    (rw c.read_u16.ensures.0 (sym (from_step _ _ _ c.loop-kind-test.true e) ∙ l.invariant.0), omega (arith, fits_at_lem _ _ _ _ d.before.before.«record».ensures c.in-Passed.is, c.read_u16.ensures), omega arith, omega arith, omega arith)
+    let e = sym c.in-Passed.is ∙ c.record-stage.ensures in
+    (rw c.read_u16.ensures.0 (sym (from_step _ _ _ c.loop-kind-test.true e) ∙ l.invariant.0), omega (arith, fits_at_lem _ _ _ _ c.record-stage.ensures c.in-Passed.is, c.read_u16.ensures), omega arith, omega arith, omega arith)
 
 pub returns-then-at-file : goal.returns-then-at-file
 returns-then-at-file c = sym (from_after _ _ _ (omega arith) (omega arith)) ∙ c.loop-kind.invariant.0
