@@ -1,39 +1,44 @@
 // Reads a yard file on standard input and writes the verdict on it, one line.
 #![tactic(auto)]
-use libc::{STDERR_FILENO, STDIN_FILENO, STDOUT_FILENO};
+
+ghost use Rattle.std.specs.Prelude.{◌≤◌, length, IfOk};
+
 use report::Numbers;
+use std::io;
+use std::io::Read;
 
-fn write_value(value: u64) {
-    io::write_all(STDOUT_FILENO, b" ");
-    io::print_decimal(STDOUT_FILENO, value);
-}
-
-fn write_verdict(verdict: Numbers) {
-    if verdict.n == 0 {
-        io::write_all(STDOUT_FILENO, b"accepted");
+fn write_verdict(rt: &HostRuntime, verdict: Numbers) -> io::Result<()> {
+    let Numbers { n, p, q, r } = verdict;
+    if n == 0 {
+        println!(rt; "accepted {p} {q} {r}")
     } else {
-        io::write_all(STDOUT_FILENO, b"refused");
-        write_value(verdict.n);
+        println!(rt; "refused {n} {p} {q} {r}")
     }
-    write_value(verdict.p);
-    write_value(verdict.q);
-    write_value(verdict.r);
-    io::write_all(STDOUT_FILENO, b"\n");
 }
 
-// A read that fails stops `read_full` as the end of the input does: only after the end is there nothing to read.
-fn at_end() -> bool {
-    let mut next = [0u8; 1];
-    libc::read(STDIN_FILENO, &mut next) == 0
+// Reads until the buffer is full or the input ends.
+fn read_full<R: Read>(input: &mut R, buffer: &mut [u8]) -> io::Result<usize>
+    ensures { IfOk result (λ n. n ≤ length buffer.new) }
+{
+    let mut done: usize = 0;
+    while done < buffer.len() {
+        let n = input.read(&mut buffer[done..])?;
+        if n == 0 {
+            break;
+        }
+        done += n;
+    }
+    Ok(done)
 }
 
-fn main() {
+fn main(rt: HostRuntime) -> io::Result<()> {
     // One byte more than the longest file, so that the check sees one that is too long.
     let mut file = [0u8; 43537];
-    let length = io::read_full(STDIN_FILENO, &mut file);
-    if length < 43537 && !at_end() {
-        io::write_all(STDERR_FILENO, b"checker: standard input cannot be read\n");
-        return;
+    match read_full(&mut rt.reader(), &mut file) {
+        Ok(length) => {
+            let verdict = verdict::check(&file[..length]);
+            write_verdict(&rt, report::verdict_numbers(verdict))
+        }
+        Err(_) => eprintln!(rt; "checker: standard input cannot be read"),
     }
-    write_verdict(report::verdict_numbers(verdict::check(&file[..length])));
 }
