@@ -1,5 +1,5 @@
 -- The definitions. The meaning: Words, First, Packed, Sets, Actions, Tables, and of Bits Bytes and HighestByte. The tests
--- that run: has_bit, set_bytes, action_bytes and listFrom in Bits, bits_below in Counts.
+-- that run: has_bit, set_bytes, action_bytes and list_from in Bits, bits_below in Counts.
 pub mod Bits
 pub mod Words
 pub mod First

@@ -7,7 +7,7 @@ mod lines;
 mod records;
 mod words;
 
-ghost use Rattle.std.specs.Prelude.{◌≡◌, ◌≤◌, length};
+ghost use Rattle.std.specs.Prelude.{◌≡◌, ◌≤◌, length, IfOk};
 ghost use Rattle.io.specs.Counts.{IsPrefixLen};
 
 use answers::{
@@ -15,13 +15,13 @@ use answers::{
     write_verdict,
 };
 use follower::{Follower, Moved};
-use libc::{STDIN_FILENO, STDOUT_FILENO};
 use lines::{
     BY, CASE, CHECK, EXPRESSION, LEAVING, LEFT, RESTART, STANDING, STATE, TAKE, TOGETHER, WAY,
     WRITE, prepare, word_of,
 };
 use records::{CHART, FILE, LABELS, NODES, body, join, least, write};
 use report::Numbers;
+use std::io::{Read, Write, writer};
 use std::num::wrapping_add_u64;
 use words::{after, find, number, part, same};
 
@@ -52,27 +52,27 @@ fn counted(state: State, as_expected: bool) -> State {
     }
 }
 
-fn say(text: &[u8]) {
-    io::write_all(STDOUT_FILENO, text);
+fn say(rt: &HostRuntime, text: &[u8]) -> std::io::Result<()> {
+    writer(rt).write_all(text)
 }
 
 // Writes one call with its answer; says whether that is what the line expects.
-fn judge(name: &[u8], line: &[u8], answer: &[u8]) -> bool {
+fn judge(rt: &HostRuntime, name: &[u8], line: &[u8], answer: &[u8]) -> std::io::Result<bool> {
     let equals = find(line, 0, b'=');
     let expected = part(line, equals + 1, line.len());
     let as_expected = same(answer, expected);
-    say(name);
-    say(b": ");
-    say(part(line, 0, least(equals + 1, line.len())));
-    say(answer);
+    say(rt, name)?;
+    say(rt, b": ")?;
+    say(rt, part(line, 0, least(equals + 1, line.len())))?;
+    say(rt, answer)?;
     if as_expected {
-        say(b", as expected\n");
+        say(rt, b", as expected\n")?;
     } else {
-        say(b", NOT");
-        say(expected);
-        say(b"\n");
+        say(rt, b", NOT")?;
+        say(rt, expected)?;
+        say(rt, b"\n")?;
     }
-    as_expected
+    Ok(as_expected)
 }
 
 fn verdict_on(file: &[u8]) -> Numbers {
@@ -258,19 +258,21 @@ fn answer(bytes: &mut [u8], lent: &mut [u8], word: usize, line: &[u8], text: &mu
 }
 
 fn call(
+    rt: &HostRuntime,
     table: &[u8],
     state: State,
     bytes: &mut [u8],
     lent: &mut [u8],
     word: usize,
     line: &[u8],
-) -> State {
+) -> std::io::Result<State> {
     join(bytes, state.part);
     let mut text = io::buffer();
     let count = at_most(lent, state.lent);
     let length = answer(bytes, &mut lent[..count], word, line, &mut text);
     let name = after(part(table, state.name, state.name_end), 1);
-    counted(state, judge(name, line, &text[..length]))
+    let as_expected = judge(rt, name, line, &text[..length])?;
+    Ok(counted(state, as_expected))
 }
 
 // What a line that calls nothing makes of the state.
@@ -294,26 +296,32 @@ fn lend(state: State, lent: &mut [u8], line: &[u8]) -> State {
 }
 
 fn obey(
+    rt: &HostRuntime,
     table: &[u8],
     from: usize,
     to: usize,
     bytes: &mut [u8],
     lent: &mut [u8],
     state: State,
-) -> State {
+) -> std::io::Result<State> {
     let line = part(table, from, to);
     let word = word_of(line);
     if word >= CHECK {
-        return call(table, state, bytes, lent, word, line);
+        return call(rt, table, state, bytes, lent, word, line);
     }
     if (word == STANDING) | (word == STATE) {
-        return lend(state, lent, line);
+        return Ok(lend(state, lent, line));
     }
     prepare(bytes, state.part, word, line);
-    moved(state, word, from, to)
+    Ok(moved(state, word, from, to))
 }
 
-fn run(table: &[u8], bytes: &mut [u8], lent: &mut [u8]) -> State {
+fn run(
+    rt: &HostRuntime,
+    table: &[u8],
+    bytes: &mut [u8],
+    lent: &mut [u8],
+) -> std::io::Result<State> {
     let mut state = State {
         part: 0,
         name: 0,
@@ -325,10 +333,10 @@ fn run(table: &[u8], bytes: &mut [u8], lent: &mut [u8]) -> State {
     let mut at: usize = 0;
     while at < table.len() {
         let end = find(table, at, b'\n');
-        state = obey(table, at, end, bytes, lent, state);
+        state = obey(rt, table, at, end, bytes, lent, state)?;
         at = end + 1;
     }
-    state
+    Ok(state)
 }
 
 // Room for ten parts.
@@ -338,14 +346,27 @@ fn space() -> [u8; 655360]
     [0; 655360]
 }
 
-fn main() {
+// Reads until the buffer is full or the input ends.
+fn read_full<R: Read>(input: &mut R, buffer: &mut [u8]) -> std::io::Result<usize>
+    ensures { IfOk result (λ n. n ≤ length buffer.new) }
+{
+    let mut done: usize = 0;
+    while done < buffer.len() {
+        let n = input.read(&mut buffer[done..])?;
+        if n == 0 {
+            break;
+        }
+        done += n;
+    }
+    Ok(done)
+}
+
+fn main(rt: HostRuntime) -> std::io::Result<()> {
     let mut table = io::large_buffer();
-    let length = io::read_full(STDIN_FILENO, &mut table);
+    let length = read_full(&mut rt.reader(), &mut table)?;
     let mut bytes = space();
     let mut lent = io::buffer();
-    let state = run(&table[..length], &mut bytes, &mut lent);
-    io::print_decimal(STDOUT_FILENO, state.passed);
-    say(b" of ");
-    io::print_decimal(STDOUT_FILENO, state.run);
-    say(b" calls as expected\n");
+    let state = run(&rt, &table[..length], &mut bytes, &mut lent)?;
+    let State { run, passed, .. } = state;
+    println!(rt; "{passed} of {run} calls as expected")
 }

@@ -32,7 +32,7 @@ pub mod LabellingTests
 -- taken_loop_chart; it then reaches nothing but its body: taken_reaches
 pub mod Removal
 -- lists of removals answer as the plain set does: removals_agree, from all standing by agree_at_first; the rule has one answer,
--- one-answer; when the plain set says "done", plain-done
+-- one_answer; when the plain set says "done", plain_done
 pub mod Removals
 -- the answers as tests that run: of one call rule_answer_lem and plain_answer_lem, of lists rule_answers and plain_answers, of several
 -- loops together group_answer_lem
@@ -42,10 +42,10 @@ pub mod RemovalTests
 pub mod Orders
 -- 000's multi-step removal exactly where no loop is in the list twice and the answer is "done": multi_iff; one answer,
 -- one_group_answer; the first loop leaves the others loop charts, apart_rest, so that they go one by one in every order and leave
--- the same, multi_singles; over a chart that passed, where each can be taken out none starts inside another, none-inside
+-- the same, multi_singles; over a chart that passed, where each can be taken out none starts inside another, none_inside
 pub mod MultiSteps
 -- EXPRESSIONS AND THEIR CHARTS
--- two strictly ascending lists with the same members are equal: one-list
+-- two strictly ascending lists with the same members are equal: one_list
 pub mod Ascending
 -- the steps of an expression as a list: derivatives_sound, derivatives_complete
 pub mod Derivatives
@@ -53,7 +53,7 @@ pub mod Derivatives
 pub mod Contexts
 -- induction down a table whose operands are lower
 pub mod Down
--- where a node leads, from the root down: after_left, after_right, after-last
+-- where a node leads, from the root down: after_left, after_right, after_last
 pub mod Up
 -- the chart over a table of nodes has exactly the steps of the rules: edges_are_steps, chart_sound, chart_complete; its start
 -- stands for the expression, residual_of_start; it ascends strictly, transitions_ascend
@@ -84,14 +84,14 @@ pub mod Events
 -- "spoilt" exactly at the events after one that is not possible since the last restart: answers_exactly; the same of answers
 -- written otherwise, exactly_written
 pub mod Spoiling
--- followers that run: any function that meets a rule, run_follows; any rule over a machine with lists of moves, machine-follows and
+-- followers that run: any function that meets a rule, run_follows; any rule over a machine with lists of moves, machine_follows and
 -- machine_answers; charts and the rules as machines, chart_machine_lem, chart_answers, rules_machine, rules_answers
 pub mod Runs
 -- the follower computed of the definitions: document 01's case, loop_follows, loop_chart_follows, and on from there, spoilt_run
 pub mod FollowerCases
 -- shortest lists of events to the end: by the follower's events exactly where by paths, ends_unspoilt, and then all are taken,
 -- ends_taken; from a spoilt state never, spoilt_stays; the same over bisimilar systems, ends_carried; one list, one_shortest; shorter
--- than there are vertices, ends_short, shortest_few; found action by action, lowest_more, and by layers, first-more, first_less
+-- than there are vertices, ends_short, shortest_few; found action by action, lowest_more, and by layers, first_more, first_less
 pub mod Ways
 -- the same as tests that run: ends_in_tested, lowest_list_lem, shortest_list_lem
 pub mod WayTests
@@ -111,7 +111,7 @@ pub mod PostOrders
 pub mod Remains
 -- the chart of the table of the start's text is bisimilar to the drawn chart: table_bisimulation
 pub mod TextCharts
--- by a relation that is decided: remains-at?
+-- by a relation that is decided: remains_at?
 pub mod Decisions
 -- G's chart gives G's expression and its table, computed of the definitions; so do a loop inside a loop, sums of three and of none
 pub mod TextCases
