@@ -1,17 +1,16 @@
 -- A sum and a text as they are written, node by node; and where there is no room for them, that every one would need more.
 use Prim.Native.Nat.{ℕ, zero, suc, ◌+◌, ◌-◌, ◌*◌, ◌≤◌, ◌<◌}
 use mathlib.Core.Path.{◌≡◌, refl, sym, ap, ◌∙◌, subst}
-use mathlib.Core.Logic.{◌≢◌, ◌⊎◌, inl, inr, ⊎_elim, by_cases}
-use mathlib.Core.Bool.{true, false, ◌||◌, true≢false}
+use mathlib.Core.Logic.{◌≢◌, ◌⊎◌, ◌↔◌, inl, inr, ⊎_elim, by_cases}
+use mathlib.Core.Bool.{Bool, true, false, ◌||◌, true≢false}
 use mathlib.Core.List.{List}
 use mathlib.Core.Option.{Option, none, some}
 use native.Mathlib.Omega.{arith}
 use native.Mathlib.Decide.{dec_le}
 use lib.Dec.{eqb, ltb}
 use lib.ListN.{length, get_or, take, drop}
-use Rattle.theory.specs.Expressions.{Expr, deadlock, act, sum, product, star}
+use Rattle.theory.specs.Expressions.{Expr, deadlock, act, product, star}
 use Rattle.theory.specs.Nodes.{op_star, leaf}
-use Rattle.theory.specs.Relations.{Indexed}
 use Rattle.theory.specs.LabelledCharts.{LabelledChart, Half, entries, branches, InHalf}
 use Rattle.theory.specs.PostOrders.{size}
 use Rattle.theory.specs.Texts.{plus, total, Text, text, Sum, nothing, other, alone, times}
@@ -209,9 +208,6 @@ module _ {b labels : List ℕ} {half : Half} {w back : ℕ} {part marks : List �
   pub in_part : {n : ℕ} → n ≡ length marks → i < n → i < length marks
   in_part e l = omega arith
 
-  pub few_items : {n : ℕ} → n ≡ length marks → i < n → i < 8192
-  few_items e l = omega (arith, A.vertex.within, A.vertex.formed.header.count_high)
-
   -- the next place
   next_sum : {x : Option Expr} → Sum (drawn_of b labels) half w back (suc (from + i)) x
       → Sum (drawn_of b labels) half w back (from + (i + 1)) x
@@ -235,7 +231,7 @@ module _ {b labels : List ℕ} {half : Half} {w back : ℕ} {part marks : List �
   }
 
   -- THE LIMIT OF AN ITEM, with the sum's node set aside
-  pub item_room : {end : ℕ} → (count ≡ at → end ≡ limit) × (count < at → end + 1 ≡ limit) → end + join_node A.items ≡ limit
+  item_room : {end : ℕ} → (count ≡ at → end ≡ limit) × (count < at → end + 1 ≡ limit) → end + join_node A.items ≡ limit
   item_room {end} (f, g) = go A.items at_size
     where
       go : (x : Option Expr) → at ≡ count + size_of x → end + join_node x ≡ limit
@@ -260,6 +256,15 @@ pub record ItemAt (b labels : List ℕ) (half : Half) (w back : ℕ) (part marks
   pub inside : i < length marks
   pub mine : LabelIn half (get_or marks i 0)
   pub room : end + join_node sum.items ≡ limit
+
+-- so it is where its label was found to be of this half, and its limit taken
+pub item_at : {b labels : List ℕ} {half : Half} {w back : ℕ} {part marks : List ℕ} {from count limit : ℕ} {s₀ s : List ℕ}
+    {at i n end label : ℕ} {mine : Bool} → n ≡ length marks
+    → SumAt b labels half w back part marks from count limit s₀ s at i → i < n → label ≡ get_or marks i 0
+    → (mine ≡ true) ↔ LabelIn half label → mine ≡ true → (count ≡ at → end ≡ limit) × (count < at → end + 1 ≡ limit)
+    → ItemAt b labels half w back part marks from count limit s₀ s at i end
+item_at {half = half} e A l q f h r =
+    record { sum = A; inside = in_part A e l; mine = subst (LabelIn half) q (f.0 h); room = item_room A r }
 
 module _ {b labels : List ℕ} {half : Half} {w back : ℕ} {part marks : List ℕ} {from count limit : ℕ} {s₀ s : List ℕ} {at i end : ℕ}
     (I : ItemAt b labels half w back part marks from count limit s₀ s at i end) where
@@ -292,11 +297,11 @@ module _ {b labels : List ℕ} {half : Half} {w back : ℕ} {part marks : List �
     abbrev item_is : Expr
     item_is = followed (action_of b (from + i)) F.rest
 
-    pub after_long : length s₂ ≡ 508
+    after_long : length s₂ ≡ 508
     after_long = F.kept.long ∙ U.kept.long ∙ I.sum.long
 
     -- the product's node has room, and then the sum's
-    pub product_room : (at < next) × (next ≤ 127) × (suc at < next → next < 127)
+    product_room : (at < next) × (next ≤ 127) × (suc at < next → next < 127)
     product_room = go F.rest F.stand F.room
       where
         go : (y : Option Expr) → NodesOf (node s₂) (at + 1) y next → next + join_node y ≤ end
@@ -306,6 +311,9 @@ module _ {b labels : List ℕ} {half : Half} {w back : ℕ} {part marks : List �
             let e = nodes_end (some d) n in
             let low = I.sum.low in
             (omega arith, omega (arith, I.room), λ k. omega (arith, I.room))
+
+    pub product_given : (length s₂ ≡ 508) × (at < next) × (next ≤ 127) × (suc at < next → next < 127)
+    product_given = (after_long, product_room.0, product_room.1, product_room.2)
 
     module _ {s₃ : List ℕ} {after_item : ℕ} (T : Timed at next s₂ s₃ after_item) where
       item_stands : NodesOf (node s₃) at (some item_is) after_item

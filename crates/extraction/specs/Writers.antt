@@ -6,7 +6,6 @@ use Rattle.theory.specs.Nodes.{Node, leaf}
 use Rattle.theory.specs.LabelledCharts.{LabelledChart, Half, entries, branches}
 use Rattle.theory.specs.PostOrders.{PostOrder, size}
 use Rattle.theory.specs.Texts.{plus, total, Sum}
-use Rattle.theory.specs.Relations.{Indexed}
 use Rattle.expression.specs.Table.{node}
 
 -- the entries, or the branches

@@ -1,5 +1,6 @@
 // An expression for a chart with its labelling (document 02, C-14): the text of the start, as a body of kind 1.
 #![tactic(auto)]
+
 mod texts;
 
 ghost use Rattle.std.specs.Prelude.{◌≡◌, ℕ, ◌*◌, ◌<◌, ◌≤◌, length, take};
