@@ -48,7 +48,7 @@ use Rattle.expression.proofs.Table.{passed→well_formed, tree}
 use Rattle.expression.proofs.Chart.{body_start, body_transitions, body_passes}
 use Rattle.bisimulation.specs.Answers.{Related}
 use Rattle.bisimulation.proofs.Relations.{relation_iff_bisimulation}
-use Rattle.elimination.specs.Removals.{removed_as}
+use Rattle.elimination.specs.Removals.{removal_of, removed_as}
 use Rattle.elimination.proofs.Lists.{Passing, formed, listed, call_answers, call_stands, calls_agree}
 use Rattle.follower.specs.declared.Follower.{Follower}
 use Rattle.follower.specs.States.{state_size, state_in, no_state}
@@ -133,12 +133,13 @@ module _ {b labels : List ℕ} (c : Passing b labels) where
   each_from : {X : Loops} {standing : List ℕ} → DecidedLoops (StepsOf b labels) X → StandsFor b labels standing X
       → (calls : List Pair) → EachRemoval b labels standing X calls
   each_from k h [] = ended h
-  each_from k h ((v, l) ∷ calls) =
+  each_from {X = X} {standing = standing} k h ((v, l) ∷ calls) =
       let (a, p) = plain_call (formed c) (listed c) k v l in
       let e = call_answers c k.loops h v l p in
       let same = remaining_same a e v l _ in
       call h (Iff.trans (done_same a e) (plain_done p))
-      (each_from (decided_same same (left_decided v l a k)) (stands_same same (call_stands c k.loops h v l a p)) calls)
+      (each_from {X = Remaining (removal_of b labels v l standing) v l X} (decided_same same (left_decided v l a k))
+          (stands_same same (call_stands c k.loops h v l a p)) calls)
 
   against : (calls : List Pair) → AgainstPlainSet b labels calls
   against calls = record {

@@ -1,0 +1,9 @@
+use mathlib.Core.Path.{ap, ◌∙◌}
+use Rattle.report.specs.Numbers.{followed_numbers}
+use Rattle.sequence.proofs.seq_event.Goals as goal
+
+pub returns : goal.returns
+returns c = (
+  c.followed_numbers.ensures ∙ ap followed_numbers c.event_lent.ensures.0,
+  c.event_lent.ensures.1,
+)
