@@ -2,6 +2,7 @@
 // its head how it is written. Each call of a case writes the case's name, the call, the answer and whether it is the
 // expected one; the last line counts.
 #![tactic(auto)]
+
 mod answers;
 mod lines;
 mod records;

@@ -139,7 +139,7 @@ module _ {b labels : List ℕ} (c : Passing b labels) where
       let same = remaining_same a e v l _ in
       call h (Iff.trans (done_same a e) (plain_done p))
       (each_from {X = Remaining (removal_of b labels v l standing) v l X} (decided_same same (left_decided v l a k))
-          (stands_same same (call_stands c k.loops h v l a p)) calls)
+      (stands_same same (call_stands c k.loops h v l a p)) calls)
 
   against : (calls : List Pair) → AgainstPlainSet b labels calls
   against calls = record {

@@ -6,7 +6,7 @@ use Rattle.report.specs.Numbers.{four, way_numbers}
 use Rattle.chart.specs.Bodies.{vertices_of}
 use Rattle.follower.specs.States.{state_in, InState, Unspoilt, IsSpoilt}
 use Rattle.follower.specs.Ways.{way_of, way_left}
-use Rattle.follower.specs.WayAnswers.{event_answers, ShortestWay, OnlyTaken, NoEnd, StatePasses, WayAnswer}
+use Rattle.follower.specs.WayAnswers.{event_answers, ShortestWay, OnlyTaken, NoEnd, WayAnswer}
 use Rattle.promises.specs.Numbered.{Gives, ByNumbers}
 
 abbrev pub WayGives : (b s out : List ℕ) → Numbers → List ℕ → Type 0

@@ -1,6 +1,7 @@
 // What the panel's firmware calls: include/sequence.h has the prototypes. No function requires
 // anything, since nothing checks a C caller.
 #![tactic(auto)]
+
 ghost use Rattle.std.specs.Prelude.{◌≡◌, length};
 ghost use Rattle.report.specs.Numbers.{verdict_numbers, written_numbers, removed_numbers, together_numbers};
 ghost use Rattle.report.specs.Numbers.{followed_numbers, way_numbers, extracted_numbers};

@@ -1,13 +1,13 @@
 -- On a connected chart, checks 32 to 35 say exactly that the labelling is a witness.
-use mathlib.Core.Path.{◌≡◌, refl, sym, ◌∙◌}
-use mathlib.Core.Logic.{◌≢◌, ◌⊎◌, inl, inr, ◌↔◌}
+use mathlib.Core.Path.{◌≡◌, sym, ◌∙◌}
+use mathlib.Core.Logic.{◌≢◌, inl, inr, ◌↔◌}
 use Prim.Native.Nat.{ℕ, zero, suc, ◌<◌}
 use native.Mathlib.Omega.{arith}
 use Rattle.theory.specs.Paths.{Star, here, step, Plus, last, more, Endless, Returns}
 use Rattle.theory.specs.Charts.{Steps, SameSteps, Formed, Any, Branch, Loop}
 use Rattle.theory.specs.LoopCharts.{InLoop, entry, other, LoopChart}
 use Rattle.theory.specs.Witnesses.{Witness, Connected}
-use Rattle.theory.specs.Checks.{Passed, LoopPasses}
+use Rattle.theory.specs.Checks.{Passed}
 use Rattle.theory.proofs.Paths.{plus_star, star_cases, star_map, plus_map, endless_step, endless_step_at, endless_from, endless_cast, cycle_endless, return_cycle}
 use Rattle.theory.proofs.Cycles.{endless_iff, L2_iff}
 use Rattle.theory.proofs.Rounds.{off_start, round_below, round_map}

@@ -1,5 +1,5 @@
 -- The relation is decided.
-use mathlib.Core.Path.{◌≡◌, refl, sym, ap, ap₂, ◌∙◌, subst}
+use mathlib.Core.Path.{◌≡◌, refl, ap, ap₂}
 use mathlib.Core.Logic.{◌⊎◌, inl, inr}
 use mathlib.Core.List.{List, [], ◌∷◌}
 use mathlib.Core.Option.{Option, none, some}
@@ -7,8 +7,8 @@ use mathlib.Core.Option as option
 use Prim.Native.Nat.{ℕ, ◌≤◌, ◌<◌}
 use native.Mathlib.Omega.{arith}
 use native.Mathlib.Decide.{ℕ_discrete, dec_lt, dec_le}
-use Rattle.theory.specs.Expressions.{Expr, deadlock, act, sum, product, star, Target}
-use Rattle.theory.specs.Nodes.{Node, meaning, Means}
+use Rattle.theory.specs.Expressions.{Expr, deadlock, act, sum, product, star}
+use Rattle.theory.specs.Nodes.{Node, meaning}
 use Rattle.theory.proofs.Search.{look_below}
 use Rattle.theory.specs.LabelledCharts.{LabelledChart}
 use Rattle.theory.specs.Texts.{Text}

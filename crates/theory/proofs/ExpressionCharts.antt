@@ -6,7 +6,7 @@ use mathlib.Core.List.Memᴰ
 use mathlib.Core.List.{List, [], ◌∷◌, ◌++◌, map, map-append, map-map, Memᴰ}
 use native.Mathlib.Nat.{eq-or-lt_of_le, le_of_suc-le-suc}
 use native.Mathlib.Omega.{arith}
-use Rattle.theory.specs.Expressions.{star, Target, end, to, Step}
+use Rattle.theory.specs.Expressions.{star, Target, end, Step}
 use Rattle.theory.specs.Derivatives.{moved, derivatives}
 use Rattle.theory.specs.Nodes.{Op, op_sum, op_product, op_star, Node, bad, dead, leaf, bin, expr, first, above_left, follow, after, remainders, residual, meaning, Tree}
 use Rattle.theory.specs.Ascending.{Ascending}

@@ -1,20 +1,19 @@
 -- The test of a labelling gives the answer of the checks 31 to 35.
 use mathlib.Core.Path.{◌≡◌, refl, sym, ◌∙◌, ap, subst}
-use mathlib.Core.Logic.{◌≢◌, ◌⊎◌, inl, inr, ⊎_elim, ◌↔◌}
-use mathlib.Core.Bool.{Bool, true, false, cond, ◌&&◌, not, false≢true}
-use Prim.Native.Nat.{ℕ, zero, suc, ◌+◌, ◌≤◌, ◌<◌}
+use mathlib.Core.Logic.{◌⊎◌, inl, inr, ⊎_elim}
+use mathlib.Core.Bool.{Bool, true, false, cond, not, false≢true}
+use Prim.Native.Nat.{ℕ, ◌≤◌, ◌<◌}
 use native.Mathlib.Omega.{arith}
-use lib.Dec.{eqb, ltb, leb}
-use borrow.Author.Tests.{ltb-true, ltb-false, not-true, not-false}
-use Rattle.theory.specs.Paths.{Edges, Star, Plus}
-use Rattle.theory.specs.Charts.{Steps, Formed, Listed, Any, Branch, Loop}
+use lib.Dec.{ltb}
+use borrow.Author.Tests.{ltb-true, ltb-false}
+use Rattle.theory.specs.Paths.{Edges, Plus}
+use Rattle.theory.specs.Charts.{Steps, Formed, Listed, Any, Loop}
 use Rattle.theory.specs.LoopCharts.{Round, entry, other, InLoop}
 use Rattle.theory.specs.Witnesses.{Layered, Connected}
-use Rattle.theory.specs.Least.{Least, Earlier, FirstPair}
-use Rattle.theory.specs.Checks.{LoopPasses, Passed, Outcome, passes, unreached, branch_cycle, no_return, end_inside, not_lower, Unreached, OnBranchCycle, NotLower, LoopFails, fails_33, fails_34, fails_35, EarlierPass, Checked, all_pass, fails_31, fails_32, fails_loop}
+use Rattle.theory.specs.Least.{Least, FirstPair}
+use Rattle.theory.specs.Checks.{LoopPasses, Outcome, passes, unreached, branch_cycle, no_return, end_inside, not_lower, Unreached, OnBranchCycle, NotLower, LoopFails, fails_33, fails_34, fails_35, EarlierPass, Checked, all_pass, fails_31, fails_32, fails_loop}
 use Rattle.theory.specs.Orders.{AllLoops}
-use Rattle.theory.specs.Tests.{Decides, some_below, lowest, first_row}
-use Rattle.theory.specs.Reachability.{reaches, leads_to}
+use Rattle.theory.specs.Tests.{Decides, lowest, first_row}
 use Rattle.theory.specs.LabellingTests.{StepTest, round_test, any_test, loop_test, loop_list, body_test, unreached_test, cycle_test, not_lower_test, loop_outcome, failed, failing_test, loops_outcome, outcome}
 use Rattle.theory.proofs.Paths.{star_apart, plus_below}
 use Rattle.theory.proofs.Tests.{decided, test_of, decides_dec, not_so, decides_same, decides_and, decides_not, decides_eqb, decides_ltb, decides_leb, decides_cond, decides_below, lowest_stops, stops_least, first_pair}

@@ -1,15 +1,12 @@
 -- The answer of the checks 31 to 35: there is only one, and nothing fails exactly for a witness of a connected chart.
-use mathlib.Core.Path.{◌≡◌, refl, sym, ◌∙◌, ap, subst}
-use mathlib.Core.Logic.{◌≢◌, ◌⊎◌, inl, inr, ⊎_elim, ◌↔◌}
-use Prim.Native.Nat.{ℕ, zero, suc, ◌≤◌, ◌<◌}
+use mathlib.Core.Path.{◌≡◌, refl, ap}
+use mathlib.Core.Logic.{◌⊎◌, inl, inr, ◌↔◌}
+use Prim.Native.Nat.{ℕ}
 use native.Mathlib.Omega.{arith}
-use native.Mathlib.Decide.{ℕ_discrete, dec_lt}
-use Rattle.theory.specs.Paths.{Edges, Star, here, Plus, last, more}
-use Rattle.theory.specs.Charts.{Steps, Formed, Any, Branch, Loop}
-use Rattle.theory.specs.LoopCharts.{InLoop}
+use Rattle.theory.specs.Charts.{Steps, Formed, Loop}
 use Rattle.theory.specs.Witnesses.{Layered, Witness, Connected}
 use Rattle.theory.specs.Least.{Least, Earlier}
-use Rattle.theory.specs.Checks.{LoopPasses, Passed, Outcome, passes, unreached, branch_cycle, no_return, end_inside, not_lower, Unreached, OnBranchCycle, NotLower, LoopFails, fails_33, fails_34, fails_35, EarlierPass, Checked, all_pass, fails_31, fails_32, fails_loop}
+use Rattle.theory.specs.Checks.{LoopPasses, Passed, Outcome, passes, unreached, branch_cycle, not_lower, Unreached, NotLower, LoopFails, fails_33, fails_34, fails_35, EarlierPass, Checked, all_pass, fails_31, fails_32, fails_loop}
 use Rattle.theory.proofs.Paths.{plus_star}
 use Rattle.theory.proofs.Search.{least_one, same_or_earlier}
 use Rattle.theory.proofs.Checks.{passed_iff_witness}

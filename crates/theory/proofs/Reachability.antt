@@ -1,18 +1,18 @@
 -- The reachability test decides reachability.
-use mathlib.Core.Path.{◌≡◌, refl, sym, ◌∙◌, ap, ap₂, subst}
-use mathlib.Core.Logic.{◌≢◌, ◌⊎◌, inl, inr, ⊎_elim, ◌↔◌}
-use mathlib.Core.Bool.{Bool, true, false, ◌&&◌, ◌||◌, false≢true}
+use mathlib.Core.Path.{◌≡◌, refl, sym, ◌∙◌, ap, subst}
+use mathlib.Core.Logic.{◌⊎◌, inl, inr, ⊎_elim}
+use mathlib.Core.Bool.{Bool, true, false, false≢true}
 use mathlib.Core.List.{List, [], ◌∷◌, ◌++◌}
 use Prim.Native.Nat.{ℕ, zero, suc, ◌+◌, ◌≤◌, ◌<◌}
 use native.Mathlib.Omega.{arith}
 use native.Mathlib.Decide.{ℕ_discrete, dec_lt}
-use lib.ListN.{length, get_or, length-append, get_or-append, get_or-eq_default}
+use lib.ListN.{length, length-append, get_or-append, get_or-eq_default}
 use lib.Seq.{get_or-append-add}
 use Rattle.theory.specs.Paths.{Edges, Star, here, step, Plus}
-use Rattle.theory.specs.Tests.{Decides, some_below}
+use Rattle.theory.specs.Tests.{Decides}
 use Rattle.theory.specs.Reachability.{values, at, grows, rounds, reaches, leads_to}
-use Rattle.theory.proofs.Paths.{star_snoc, plus_of, plus_first}
-use Rattle.theory.proofs.Tests.{decides_and, decides_or, decides_below, decides_same, is_false}
+use Rattle.theory.proofs.Paths.{plus_of, plus_first}
+use Rattle.theory.proofs.Tests.{decides_and, decides_or, decides_below, decides_same}
 
 -- LISTS OF VALUES
 pub values_length : (p : ℕ → Bool) (n : ℕ) → length (values p n) ≡ n

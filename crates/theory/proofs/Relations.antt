@@ -1,18 +1,18 @@
 -- The answer of the checks 42 to 45: there is only one, nothing fails exactly for a bisimulation, and the test gives it.
 use mathlib.Core.Path.{◌≡◌, refl, sym, ◌∙◌, ap, subst}
-use mathlib.Core.Logic.{◌≢◌, ◌⊎◌, inl, inr, ⊎_elim, ◌↔◌}
-use mathlib.Core.Bool.{Bool, true, false, cond, ◌&&◌, not, false≢true}
-use Prim.Native.Nat.{ℕ, ◌+◌, ◌≤◌, ◌<◌}
+use mathlib.Core.Logic.{◌⊎◌, inl, inr, ⊎_elim, ◌↔◌}
+use mathlib.Core.Bool.{Bool, true, false, cond, not, false≢true}
+use Prim.Native.Nat.{ℕ, ◌≤◌, ◌<◌}
 use native.Mathlib.Omega.{arith}
 use lib.Dec.{eqb, ltb}
 use borrow.Author.Tests.{ltb-true, ltb-false}
 use Rattle.theory.specs.Least.{Least, Earlier, FirstPair}
 use Rattle.theory.specs.Systems.{Bisimulation, converse}
 use Rattle.theory.specs.Relations.{Indexed, indexed, Matched, Unmatched, AllMatched, PairPasses, RelationOutcome, related, starts_apart, ends_apart, left_unmatched, right_unmatched, PairFails, fails_43, fails_44, fails_45, RelationChecked, all_pass, fails_42, fails_pair}
-use Rattle.theory.specs.Tests.{Decides, some_below, lowest, first_row}
+use Rattle.theory.specs.Tests.{Decides, lowest, first_row}
 use Rattle.theory.specs.RelationTests.{RelationTest, matched_test, unmatched_test, same, pair_failed, pair_outcome, failing_pair, relation_outcome}
 use Rattle.theory.proofs.Search.{least_one, same_or_earlier}
-use Rattle.theory.proofs.Tests.{decided, not_so, decides_same, decides_and, decides_not, decides_eqb, decides_ltb, decides_below, lowest_stops, stops_least, first_pair}
+use Rattle.theory.proofs.Tests.{decided, not_so, decides_same, decides_and, decides_not, decides_eqb, decides_below, lowest_stops, stops_least, first_pair}
 
 -- THERE IS ONLY ONE ANSWER
 some_unmatched : (M N : Indexed) (R : ℕ → ℕ → Type 0) (u v : ℕ) {r : ℕ} → AllMatched M N R u v → ¬ Least (Unmatched M N R u v) r

@@ -1,21 +1,21 @@
 -- What remains at a vertex of the drawn chart steps, by the published rules, as the vertex does.
-use mathlib.Core.Path.{◌≡◌, refl, sym, ap, ◌∙◌, subst}
+use mathlib.Core.Path.{◌≡◌, refl, sym, subst}
 use mathlib.Core.Logic.{◌≢◌, ◌↔◌, ⊎_elim}
 use mathlib.Core.List.Memᴰ
 use mathlib.Core.List.{List, [], ◌∷◌, ◌++◌, map, Memᴰ}
 use mathlib.Core.Option.{Option, none, some}
-use Prim.Native.Nat.{ℕ, zero, suc, ◌≤◌, ◌<◌}
+use Prim.Native.Nat.{ℕ, ◌≤◌, ◌<◌}
 use native.Mathlib.Omega.{arith}
 use native.Mathlib.Decide.{ℕ_discrete}
 use Rattle.theory.specs.Expressions.{Expr, act, product, star, Target, end, to}
-use Rattle.theory.specs.Derivatives.{Move, onto, moved, derivatives}
+use Rattle.theory.specs.Derivatives.{Move, moved, derivatives}
 use Rattle.theory.specs.Charts.{Formed}
-use Rattle.theory.specs.Relations.{Indexed, indexed}
-use Rattle.theory.specs.Rules.{Derives, rules}
+use Rattle.theory.specs.Relations.{indexed}
+use Rattle.theory.specs.Rules.{rules}
 use Rattle.theory.specs.Systems.{Bisimulation}
-use Rattle.theory.specs.LabelledCharts.{LabelledChart, labelled_steps, Half, entries, branches, InHalf}
+use Rattle.theory.specs.LabelledCharts.{LabelledChart, labelled_steps, Half, InHalf}
 use Rattle.theory.specs.Texts.{plus, total, Text, text, Sum, nothing, other, alone, times}
-use Rattle.theory.specs.Remains.{Remains, over, next, factors, pieces, AtVertex}
+use Rattle.theory.specs.Remains.{Remains, over, next, pieces, AtVertex}
 use Rattle.theory.proofs.Contexts.{plug, plugged, plug_not_end, plug_pieces, pieces_plug}
 use Rattle.theory.proofs.Contexts.{moves, moves_sound, moves_complete, moves_plug}
 

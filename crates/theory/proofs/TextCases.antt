@@ -1,12 +1,11 @@
 -- G's chart gives G's expression, computed of the definitions with its table; so do a loop inside a loop, and sums of three and of none.
 use mathlib.Core.Path.{◌≡◌, refl}
 use mathlib.Core.List.{List, [], ◌∷◌}
-use mathlib.Core.Option.{Option, some}
+use mathlib.Core.Option.{some}
 use Prim.Native.Nat.{ℕ, zero, suc}
 use lib.ListN.{length, get_or}
 use Rattle.theory.specs.Expressions.{Expr, deadlock, act, sum, product, star}
 use Rattle.theory.specs.Nodes.{Node, op_sum, op_product, op_star, dead, leaf, bin}
-use Rattle.theory.specs.Relations.{Indexed}
 use Rattle.theory.specs.LabelledCharts.{LabelledChart}
 use Rattle.theory.specs.PostOrders.{size, numbered_from, numbered}
 use Rattle.theory.specs.TextTests.{item, sum_of, star_of, written, fitting}

@@ -4,7 +4,7 @@ use Prim.Native.Nat.{ℕ, suc, ◌<◌}
 use native.Mathlib.Omega.{arith}
 use Rattle.theory.specs.Expressions.{Expr}
 use Rattle.theory.specs.Charts.{Formed}
-use Rattle.theory.specs.Relations.{Indexed, indexed}
+use Rattle.theory.specs.Relations.{indexed}
 use Rattle.theory.specs.Systems.{Bisimulation}
 use Rattle.theory.specs.Nodes.{Node}
 use Rattle.theory.specs.Transitions.{chart}

@@ -1,15 +1,12 @@
 -- What is written is the text; a text is written where the budget reaches its number of nodes; and so there is one text.
 use mathlib.Core.Path.{◌≡◌, refl, sym, ap, ◌∙◌}
 use mathlib.Core.Logic.{◌≢◌, ◌↔◌}
-use mathlib.Core.Bool.{Bool, true, false, cond}
 use mathlib.Core.Option.{Option, none, some, some-injective, none-ne-some}
 use Prim.Native.Nat.{ℕ, zero, suc, ◌+◌, ◌≤◌, ◌<◌}
 use native.Mathlib.Omega.{arith}
 use native.Mathlib.Decide.{ℕ_discrete, dec_le}
-use lib.Dec.{eqb}
 use borrow.Author.Tests.{eq-eqb, ne_eqb, le-leb}
 use Rattle.theory.specs.Expressions.{Expr, deadlock, act, sum, product, star}
-use Rattle.theory.specs.Relations.{Indexed}
 use Rattle.theory.specs.Tests.{Decides}
 use Rattle.theory.proofs.Tests.{decided, is_false, decides_and, decides_not, decides_eqb, decides_leb}
 use Rattle.theory.specs.LabelledCharts.{LabelledChart, Half, entries, branches, InHalf}

@@ -6,12 +6,11 @@ use mathlib.Core.Option.{Option, none, some}
 use Prim.Native.Nat.{ℕ, zero, suc, ◌≤◌, ◌<◌}
 use native.Mathlib.Omega.{arith}
 use native.Mathlib.Decide.{ℕ_discrete}
-use Rattle.theory.specs.Expressions.{Expr, act, product, star}
-use Rattle.theory.specs.Paths.{Plus, last}
-use Rattle.theory.specs.Charts.{Steps, Formed, Branch, Loop}
-use Rattle.theory.specs.LoopCharts.{InLoop, InBody, entry, other}
-use Rattle.theory.specs.Checks.{Passed, LoopPasses}
-use Rattle.theory.specs.Relations.{Indexed}
+use Rattle.theory.specs.Expressions.{Expr, act, product}
+use Rattle.theory.specs.Paths.{last}
+use Rattle.theory.specs.Charts.{Formed, Branch, Loop}
+use Rattle.theory.specs.LoopCharts.{InBody, entry, other}
+use Rattle.theory.specs.Checks.{Passed}
 use Rattle.theory.specs.LabelledCharts.{LabelledChart, labelled_steps, Half, entries, branches, InHalf}
 use Rattle.theory.specs.Texts.{plus, total, Text, text, Sum, nothing, alone, times}
 use Rattle.theory.specs.Texts as texts

@@ -1,6 +1,6 @@
 -- The checks 31 to 35 as a test that runs, of any labelled chart whose transitions are tested by s: from, label, to.
 -- Vertices are below size, labels below top.
-use Rattle.std.specs.Prelude.{Bool, true, false, cond, ◌&&◌, not, List, ℕ, zero, suc, eqb, ltb, leb}
+use Rattle.std.specs.Prelude.{Bool, true, false, cond, ◌&&◌, not, List, ℕ, eqb, ltb, leb}
 use Rattle.theory.specs.Tests.{some_below, lowest, first_row, pairs}
 use Rattle.theory.specs.Reachability.{reaches, leads_to}
 use Rattle.theory.specs.Checks.{Outcome, passes, unreached, branch_cycle, no_return, end_inside, not_lower}

@@ -1,5 +1,5 @@
 -- The chart of a loop, and loop charts (001, Definition 3.1).
-use Rattle.std.specs.Prelude.{◌≡◌, ◌≢◌, ℕ}
+use Rattle.std.specs.Prelude.{◌≢◌, ℕ}
 use Rattle.theory.specs.Paths.{Edges, Star, Plus, Endless, Returns, Avoid}
 use Rattle.theory.specs.Charts.{Steps, Any, Branch}
 

@@ -1,8 +1,7 @@
 -- The text of a vertex as a function that runs, with a budget: each text that is written takes one of it.
 use Rattle.std.specs.Prelude.{Bool, cond, ◌&&◌, not, ℕ, zero, suc, eqb, leb}
 use Rattle.std.proofs.Math.Option.{Option, none, some}
-use Rattle.theory.specs.Expressions.{Expr, deadlock, act, sum, product, star}
-use Rattle.theory.specs.Relations.{Indexed}
+use Rattle.theory.specs.Expressions.{Expr, act, product, star}
 use Rattle.theory.specs.LabelledCharts.{LabelledChart, Half, entries, branches}
 use Rattle.theory.specs.Texts.{plus, total}
 use Rattle.theory.specs.PostOrders.{size}

@@ -3,7 +3,6 @@
 use Rattle.std.specs.Prelude.{◌≡◌, ◌≢◌, ℕ, zero, suc}
 use Rattle.std.proofs.Math.Option.{Option, none, some}
 use Rattle.theory.specs.Expressions.{Expr, deadlock, act, sum, product, star}
-use Rattle.theory.specs.Relations.{Indexed}
 use Rattle.theory.specs.LabelledCharts.{LabelledChart, Half, entries, branches, InHalf}
 
 -- SUMS nest to the left: an item after what is summed so far, which may be nothing

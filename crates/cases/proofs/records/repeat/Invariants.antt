@@ -1,5 +1,4 @@
 use Rattle.std.proofs.Common.{◌≡◌, ◌-◌, length}
-use Rattle.std.proofs.num.wrapping_add_u8.Reads as wrapping-add-u8-reads
 use Rattle.cases.proofs.records.repeat.Given as goal
 
 -- `cases::records::repeat` meets its contract: a count to the number of bytes.
