@@ -167,6 +167,8 @@ fn refusable(
 
 // For each chart vertex the rows that 43, 44 or 45 may refuse with it. Vertices often have the same steps, and what is
 // known of them goes from one to the next.
+// Inlined, the table would lie on the stack twice.
+#[inline(never)]
 pub(crate) fn gather(
     columns: &[u64; 256],
     into: &[u64; 128],

@@ -35,6 +35,8 @@ fn row_stretch(relation: &[u8], rows: usize, u: usize) -> usize
 
 // For each chart vertex of a set the rows that are related to it. Neighbours often are the same, and are then put in
 // together.
+// Inlined, the answer would lie on the stack twice.
+#[inline(never)]
 pub(crate) fn columns(relation: &[u8], rows: usize, among: Set) -> [u64; 256]
     requires { (length relation.now ≡ 16 * rows) × (rows ≤ 128) }
     ensures { Table 128 (Column relation.now among) result }

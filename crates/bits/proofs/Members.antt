@@ -249,7 +249,7 @@ same_word x y f = let a = subset_le x y (λ k. (f k).0) in let b = subset_le y x
 same : (s t : Set) → s.lo ≡ t.lo → s.hi ≡ t.hi → s ≡ t
 same s t e f = ap (λ (x : ℕ). record { lo = x; hi = s.hi }) e ∙ ap (λ (x : ℕ). record { lo = t.lo; hi = x }) f
 
-pub one_set : (s t : Set) → SetFits s → SetFits t → SameMembers s t → s ≡ t
+pub one_set : (s t : Set) → SetFits s → SetFits t → ((w : ℕ) → Has s w ↔ Has t w) → s ≡ t
 one_set s t F G f = same s t (same_word s.lo t.lo low) (same_word s.hi t.hi high)
   where
     low : (k : ℕ) → On s.lo k ↔ On t.lo k

@@ -140,9 +140,13 @@ same_bits n s t l m B C f =
         let r : (8 * i + k) % 8 ≡ k = omega arith in
         rw (d, r) at (g (8 * i + k) (omega (arith, h, b)) (rw (d, r) on))
 
-pub same_bytes_lem : (n : ℕ) (s t : List ℕ) → length s ≡ n → length t ≡ n → Bytes s → Bytes t
+pub same_bytes_all : (n : ℕ) (s t : List ℕ) → length s ≡ n → length t ≡ n → Bytes s → Bytes t
     → ((v : ℕ) → v < 8 * n → has_bit s v ≡ has_bit t v) → s ≡ t
-same_bytes_lem n s t l m B C f = same_bits n s t l m B C (λ v h. (
+same_bytes_all n s t l m B C f = same_bits n s t l m B C (λ v h. (
   (λ on. eqb-true _ 1 (sym (f v h) ∙ eq-eqb _ 1 on)),
   (λ on. eqb-true _ 1 (f v h ∙ eq-eqb _ 1 on)),
 ))
+
+pub same_bytes_lem : (s t : List ℕ) → length s ≡ 16 → length t ≡ 16 → Bytes s → Bytes t
+    → ((v : ℕ) → v < 128 → has_bit s v ≡ has_bit t v) → s ≡ t
+same_bytes_lem = same_bytes_all 16

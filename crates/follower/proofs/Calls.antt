@@ -50,7 +50,7 @@ use Rattle.follower.proofs.Bytes.{members_are, set_has}
 -- STATES with the same vertices and the same mark are the same
 pub same_state : {f g : Follower} → Formed f → Formed g → ((v : ℕ) → InState f v ↔ InState g v) → f.mark ≡ g.mark → f ≡ g
 same_state {f} {g} F G e m =
-    let s = same_bytes_lem 16 f.set g.set F.sixteen G.sixteen F.bytes G.bytes
+    let s = same_bytes_lem f.set g.set F.sixteen G.sixteen F.bytes G.bytes
     (λ v h. test_one (has_bit f.set v) (has_bit g.set v) (λ i. ((e v).0 (h, i)).1, λ i. ((e v).1 (h, i)).1) Iff.rfl) in
     λ i. record { set = s i; mark = m i }
 

@@ -65,7 +65,7 @@ read_held s {set} M = read_same (state_in s) (record {
 
 -- the bytes of a set are those of a list with the same members
 pub bytes_same : {r : List ℕ} (xs : List ℕ) {set : Set} → BytesOf set r → Same set xs → r ≡ set_of xs
-bytes_same {r} xs {set} B S = same_bytes_lem 16 r (set_of xs) B.long (set_length _) B.below (set_bytes_lem _)
+bytes_same {r} xs {set} B S = same_bytes_lem r (set_of xs) B.long (set_length _) B.below (set_bytes_lem _)
     (λ v l. test_one (has_bit r v) (has_bit (set_of xs) v) (in_set_lem v l) (decides_same (Iff.symm (S v)) (set_has xs v l)))
   where
     in_set_lem : (v : ℕ) → v < 128 → Decides (has_bit r v) (Has set v)
