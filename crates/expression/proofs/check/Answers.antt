@@ -1,3 +1,4 @@
+-- `expression::check` meets its contract. 10, and the answer of 11 and 12.
 use mathlib.Core.Path.{sym, ◌∙◌}
 use Rattle.expression.proofs.Answers.{check_10}
 use Rattle.expression.proofs.Table.{sizes}

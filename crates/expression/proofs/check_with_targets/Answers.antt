@@ -1,3 +1,4 @@
+-- `expression::check_with_targets` meets its contract. 10 stores nothing. A tree passes, and its targets are there. Where there is none, 11 or 12 refuses, and 255 is stored again.
 use mathlib.Core.Path.{sym, ◌∙◌}
 use mathlib.Core.Bool.{false≢true}
 use Rattle.expression.proofs.Answers.{check_10}

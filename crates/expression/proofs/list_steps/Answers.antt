@@ -1,3 +1,4 @@
+-- `expression::list_steps` meets its contract. The keys, the ranks among them and the words are those of the law.
 use mathlib.Core.Path.{refl}
 use native.Mathlib.Omega.{arith}
 use Rattle.expression.proofs.Table.{passed→well_formed}

@@ -1,3 +1,4 @@
+-- `expression::write_chart` meets its contract. The refusal of the nodes, or what writing a chart that passes does.
 use mathlib.Core.Path.{sym, ◌∙◌}
 use Rattle.expression.proofs.Bodies.{refused}
 use Rattle.expression.proofs.write_chart.Goals as goal

@@ -1,3 +1,4 @@
+-- `expression::write_passed` meets its contract. The number of transitions is the chart's, so that the bytes needed are the body's.
 use native.Mathlib.Omega.{arith}
 use Rattle.expression.proofs.Table.{passed→well_formed}
 use Rattle.expression.proofs.Bodies.{body_long, chart_few, short, done}

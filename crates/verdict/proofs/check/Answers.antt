@@ -1,3 +1,4 @@
+-- R, N, C, L, B: what the records, the nodes, the chart, the labelling and the relation answer.
 use mathlib.Core.Path.{sym, ◌∙◌, ap}
 use native.Mathlib.Omega.{arith}
 use Rattle.chart.specs.Bodies.{vertices_of, count_of}

@@ -1,3 +1,4 @@
+-- `cases::answers::at_most` meets its contract: so many bytes can be taken.
 use Rattle.std.proofs.Common.{sym, arith, length-take-le}
 use Rattle.cases.proofs.answers.at_most.Goals as goal
 

@@ -1,3 +1,4 @@
+-- `expression::body::write_body` meets its contract. The head, then the transitions.
 use Rattle.expression.proofs.Stores.{body_stored}
 use Rattle.expression.proofs.body.write_body.Goals as goal
 

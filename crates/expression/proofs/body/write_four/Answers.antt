@@ -1,3 +1,4 @@
+-- `expression::body::write_four` meets its contract. The four stores in turn.
 use native.Mathlib.Omega.{arith}
 use lib.ListN.{length-set}
 use Rattle.expression.proofs.Stores.{stores_four}

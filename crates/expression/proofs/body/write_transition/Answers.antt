@@ -1,3 +1,4 @@
+-- `expression::body::write_transition` meets its contract. A key is taken apart into two of the four bytes.
 use Rattle.expression.proofs.Stores.{transition_stored}
 use Rattle.expression.proofs.body.write_transition.Goals as goal
 

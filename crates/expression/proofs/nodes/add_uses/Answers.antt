@@ -1,3 +1,4 @@
+-- `expression::nodes::add_uses` meets its contract. The uses are small enough that two more fit.
 use native.Mathlib.Omega.{arith}
 use Rattle.expression.proofs.Uses.{tally_none, tally_both, bump_le}
 use Rattle.expression.proofs.nodes.add_uses.Goals as goal

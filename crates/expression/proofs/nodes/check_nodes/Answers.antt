@@ -1,3 +1,4 @@
+-- `expression::nodes::check_nodes` meets its contract. What the two searches found is the answer of 11 and 12.
 use native.Mathlib.Omega.{arith}
 use Rattle.expression.proofs.Answers.{check_11, check_12, check_passed}
 use Rattle.expression.proofs.Uses.{uses_few}

@@ -1,3 +1,4 @@
+-- `expression::nodes::left_of` meets its contract. The left operand of a well_formed node is lower.
 use native.Mathlib.Omega.{arith}
 use Rattle.expression.proofs.View.{operands}
 use Rattle.expression.proofs.nodes.left_of.Goals as goal

@@ -1,3 +1,4 @@
+-- `expression::nodes::node_ok` meets its contract. The tests are those of `parse`, by the kind.
 use Rattle.expression.proofs.View.{good_dead, good_leaf, good_bin}
 use Rattle.expression.proofs.nodes.node_ok.Goals as goal
 

@@ -1,3 +1,4 @@
+-- `expression::nodes::right_of` meets its contract. The right operand of a well_formed node is lower.
 use native.Mathlib.Omega.{arith}
 use Rattle.expression.proofs.View.{operands}
 use Rattle.expression.proofs.nodes.right_of.Goals as goal

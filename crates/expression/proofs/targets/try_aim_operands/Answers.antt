@@ -1,3 +1,4 @@
+-- `expression::targets::try_aim_operands` meets its contract. The tests are those of a turn, and the two stores those of `aim`.
 use mathlib.Core.Path.{sym, ◌∙◌}
 use mathlib.Core.Bool.{false≢true}
 use native.Mathlib.Omega.{arith}

@@ -1,4 +1,5 @@
--- By the kind, from what is filled for each operand, by a call or as a leaf.
+-- `expression::words::fill_words` meets its contract. By the kind, from what is filled for each operand, by a call or as a leaf.
+-- The measure is the node's number: operands are lower.
 use native.Mathlib.Omega.{arith}
 use Rattle.expression.proofs.WordLaws.{filled_both}
 use Rattle.expression.proofs.words.+fill_words.Goals.{then-kind_of-lt-SUM, else-kind_of-lt-SUM, then-kind_of-lt-SUM-2, else-kind_of-lt-SUM-2}

@@ -1,3 +1,4 @@
+-- `expression::words::fill_leaf` meets its contract. Its own word is the only one below it.
 use Rattle.expression.proofs.WordLaws.{filled_leaf}
 use Rattle.expression.proofs.words.fill_leaf.Goals as goal
 

@@ -1,3 +1,4 @@
+-- `expression::words::first_words` meets its contract. From no bits, at the root: every node is below it.
 use Rattle.expression.proofs.WordLaws.{filled_all}
 use Rattle.expression.proofs.words.first_words.Goals as goal
 

@@ -1,3 +1,5 @@
+-- The writer of a sum and the writer of a text meet their contracts. The number that falls is that of the nodes that are left,
+-- from `count` up to `limit`: twice that for a text, and one more for a sum.
 use mathlib.Core.Path.{sym, subst, refl, ◌∙◌}
 use mathlib.Core.Bool.{true≢false}
 use mathlib.Core.Option.{some}
