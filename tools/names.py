@@ -92,6 +92,3 @@ if '--write' in sys.argv:
         if turned != old:
             open(f, 'w').write(turned)
 print(len(names), 'names;', len([n for n in every if wanted(n) and n not in names]), 'left as they are')
-left = sorted(n for n in every if wanted(n) and n not in names)
-open('/tmp/left-names.txt', 'w').write('\n'.join(left))
-open('/tmp/new-names.txt', 'w').write('\n'.join(f'{n} {s}' for n, s in sorted(new.items())))
