@@ -73,7 +73,6 @@ names = {n for n in own if wanted(n)}
 both = names & kit
 print('own and imported too, left:', sorted(both))
 names -= both
-definitions = set()
 definitions = {snake(n) for n in names if '-' not in n}
 new = {n: snake(n) for n in names}
 taken = {}

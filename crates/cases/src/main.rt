@@ -8,7 +8,7 @@ mod lines;
 mod records;
 mod words;
 
-ghost use Rattle.std.specs.Prelude.{◌≡◌, ◌≤◌, length, IfOk};
+ghost use Rattle.std.specs.Prelude.{◌≡◌, ◌≤◌, length};
 ghost use Rattle.io.specs.Counts.{IsPrefixLen};
 
 use answers::{
@@ -22,9 +22,12 @@ use lines::{
 };
 use records::{CHART, FILE, LABELS, NODES, body, join, least, write};
 use report::Numbers;
-use std::io::{Read, Write, writer};
+use std::io::{Write, writer};
 use std::num::wrapping_add_u64;
 use words::{after, find, number, part, same};
+
+// The descriptor, as the kit's `io` names it.
+const STANDARD_INPUT: i32 = 0;
 
 // The part that lines write to; where the case's name stands in the table; how many bytes are lent to the calls that
 // change some, the standing bytes or a follower's state; how many calls were run, and how many answered as expected.
@@ -347,24 +350,9 @@ fn space() -> [u8; 655360]
     [0; 655360]
 }
 
-// Reads until the buffer is full or the input ends.
-fn read_full<R: Read>(input: &mut R, buffer: &mut [u8]) -> std::io::Result<usize>
-    ensures { IfOk result (λ n. n ≤ length buffer.new) }
-{
-    let mut done: usize = 0;
-    while done < buffer.len() {
-        let n = input.read(&mut buffer[done..])?;
-        if n == 0 {
-            break;
-        }
-        done += n;
-    }
-    Ok(done)
-}
-
 fn main(rt: HostRuntime) -> std::io::Result<()> {
     let mut table = io::large_buffer();
-    let length = read_full(&mut rt.reader(), &mut table)?;
+    let length = io::read_full(STANDARD_INPUT, &mut table);
     let mut bytes = space();
     let mut lent = io::buffer();
     let state = run(&rt, &table[..length], &mut bytes, &mut lent)?;
