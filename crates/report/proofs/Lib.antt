@@ -1,2 +1,3 @@
 -- The laws.
 pub mod NumberLaws
+pub mod Exits

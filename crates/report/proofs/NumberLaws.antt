@@ -1,35 +1,24 @@
 -- The four numbers determine the answer: no two refusals have the same, and none has those of an answer that refuses
 -- nothing.
 use mathlib.Core.Path.{◌≡◌, refl, sym, ◌∙◌, ap}
-use mathlib.Core.Logic.{◌≢◌}
+use mathlib.Core.Logic.{◌≢◌, by_cases}
 use mathlib.Core.Bool.{Bool, true, false, cond, ◌&&◌, ◌||◌, true≢false}
 use Prim.Native.Nat.{ℕ, ◌<◌}
+use native.Mathlib.Decide.{ℕ_discrete}
 use native.Mathlib.Omega.{arith}
 use lib.Dec.{eqb, ltb}
-use borrow.Author.Tests.{ne_eqb}
-use Rattle.report.specs.Numbers.{place_numbers, verdict_numbers, written_numbers, removed_numbers, together_numbers, flag}
-use Rattle.report.specs.Numbers.{followed_numbers, way_numbers, extracted_numbers}
+use Rattle.std.specs.Prelude.{Result, Ok, Err, MatchResult}
+use Rattle.report.specs.Numbers.{refusal_numbers, answer_numbers, done_numbers, length_numbers, accepted_numbers, verdict_numbers, flag, response_numbers, followed_numbers}
 use Rattle.report.specs.declared.Numbers.{Numbers}
-use Rattle.report.specs.declared.Place.{Place}
-use Rattle.report.specs.declared.Place.TheVariants.{File, Record, RecordKind, FileOffset, NodesLength, Node, NodeUses, ChartHeader, Transition, LabelsLength, Unreached, BranchCycle, LoopNoReturn, LoopEndInside, LoopNotLower, RelationLength, PairNoVertex, PairStarts, PairEnds, PairExpressionStep, PairChartStep, FollowerSet, OutputLength}
-use Rattle.report.specs.declared.Verdict.{Verdict}
-use Rattle.report.specs.declared.Verdict.TheVariants as verdict
-use Rattle.report.specs.declared.Written.{Written}
-use Rattle.report.specs.declared.Written.TheVariants as written
-use Rattle.report.specs.declared.Removed.{Removed}
-use Rattle.report.specs.declared.Removed.TheVariants as removed
-use Rattle.report.specs.declared.Together.{Together}
-use Rattle.report.specs.declared.Together.TheVariants as together
-use Rattle.report.specs.declared.Followed.{Followed}
-use Rattle.report.specs.declared.Followed.TheVariants as followed
-use Rattle.report.specs.declared.Way.{Way}
-use Rattle.report.specs.declared.Way.TheVariants as way
-use Rattle.report.specs.declared.Extracted.{Extracted}
-use Rattle.report.specs.declared.Extracted.TheVariants as extracted
+use Rattle.report.specs.declared.Refusal.{Refusal}
+use Rattle.report.specs.declared.Refusal.TheVariants.{File, Record, RecordKind, FileOffset, NodesLength, Node, NodeUses, ChartHeader, Transition, LabelsLength, Unreached, BranchCycle, LoopNoReturn, LoopEndInside, LoopNotLower, RelationLength, PairNoVertex, PairStarts, PairEnds, PairExpressionStep, PairChartStep, StandingBytes, NoEntry, NotLoop, FollowerSet, OutputLength, NoWay, LoopList, StartInside, TooManyNodes}
+use Rattle.report.specs.declared.Accepted.{Accepted}
+use Rattle.report.specs.declared.Response.{Response}
+use Rattle.report.specs.declared.Response.TheVariants.{Taken, NotPossible, Spoilt}
 
 -- the refusal that has these numbers
-place_at : Numbers → Place
-place_at k =
+refusal_at : Numbers → Refusal
+refusal_at k =
     cond (eqb k.n 1) File
     (cond (eqb k.n 2) (Record k.p)
     (cond (eqb k.n 3) (RecordKind k.p k.q)
@@ -51,41 +40,75 @@ place_at k =
     (cond (eqb k.n 43) (PairEnds k.p k.q)
     (cond (eqb k.n 44) (PairExpressionStep k.p k.q k.r)
     (cond (eqb k.n 45) (PairChartStep k.p k.q k.r)
+    (cond (eqb k.n 50) StandingBytes
+    (cond (eqb k.n 51) (NoEntry k.p k.q)
+    (cond (eqb k.n 52) (NotLoop k.p k.q k.r)
     (cond (eqb k.n 53) FollowerSet
-    (OutputLength k.p))))))))))))))))))))))
+    (cond (eqb k.n 54) (OutputLength k.p)
+    (cond (eqb k.n 55) NoWay
+    (cond (eqb k.n 56) LoopList
+    (cond (eqb k.n 57) (StartInside k.p)
+    TooManyNodes))))))))))))))))))))))))))))
 
-place_at_lem : (x : Place) → place_at (place_numbers x) ≡ x
-unfolding place_at
-place_at_lem File = refl
-place_at_lem (Record p) = refl
-place_at_lem (RecordKind p q) = refl
-place_at_lem (FileOffset p) = refl
-place_at_lem (NodesLength p) = refl
-place_at_lem (Node p) = refl
-place_at_lem (NodeUses p q) = refl
-place_at_lem ChartHeader = refl
-place_at_lem (Transition p) = refl
-place_at_lem (LabelsLength p) = refl
-place_at_lem (Unreached p) = refl
-place_at_lem (BranchCycle p) = refl
-place_at_lem (LoopNoReturn p q) = refl
-place_at_lem (LoopEndInside p q) = refl
-place_at_lem (LoopNotLower p q r) = refl
-place_at_lem (RelationLength p) = refl
-place_at_lem (PairNoVertex p q) = refl
-place_at_lem (PairStarts p q) = refl
-place_at_lem (PairEnds p q) = refl
-place_at_lem (PairExpressionStep p q r) = refl
-place_at_lem (PairChartStep p q r) = refl
-place_at_lem FollowerSet = refl
-place_at_lem (OutputLength p) = refl
+refusal_at_numbers : (x : Refusal) → refusal_at (refusal_numbers x) ≡ x
+unfolding refusal_at
+refusal_at_numbers File = refl
+refusal_at_numbers (Record p) = refl
+refusal_at_numbers (RecordKind p q) = refl
+refusal_at_numbers (FileOffset p) = refl
+refusal_at_numbers (NodesLength p) = refl
+refusal_at_numbers (Node p) = refl
+refusal_at_numbers (NodeUses p q) = refl
+refusal_at_numbers ChartHeader = refl
+refusal_at_numbers (Transition p) = refl
+refusal_at_numbers (LabelsLength p) = refl
+refusal_at_numbers (Unreached p) = refl
+refusal_at_numbers (BranchCycle p) = refl
+refusal_at_numbers (LoopNoReturn p q) = refl
+refusal_at_numbers (LoopEndInside p q) = refl
+refusal_at_numbers (LoopNotLower p q r) = refl
+refusal_at_numbers (RelationLength p) = refl
+refusal_at_numbers (PairNoVertex p q) = refl
+refusal_at_numbers (PairStarts p q) = refl
+refusal_at_numbers (PairEnds p q) = refl
+refusal_at_numbers (PairExpressionStep p q r) = refl
+refusal_at_numbers (PairChartStep p q r) = refl
+refusal_at_numbers StandingBytes = refl
+refusal_at_numbers (NoEntry p q) = refl
+refusal_at_numbers (NotLoop p q r) = refl
+refusal_at_numbers FollowerSet = refl
+refusal_at_numbers (OutputLength p) = refl
+refusal_at_numbers NoWay = refl
+refusal_at_numbers LoopList = refl
+refusal_at_numbers (StartInside p) = refl
+refusal_at_numbers TooManyNodes = refl
 
--- the numbers of these refusals
+numbered : (x : Refusal) → 0 < (refusal_numbers x).n
+unfolding refusal_at
+numbered x = by_cases (ℕ_discrete (refusal_numbers x).n 0)
+    (λ e.
+    let at_0 : refusal_at (refusal_numbers x) ≡ TooManyNodes = rw e in
+    let n : (refusal_numbers x).n ≡ 58 = ap (λ y. (refusal_numbers y).n) (sym (refusal_at_numbers x) ∙ at_0) in
+    omega (arith, e, n))
+    (λ n. omega (arith, n))
+
+-- the numbers of what is refused by a file, a state and the length of what is lent: below 50, 53 and 54
 placed : ℕ → Bool
 placed n = ltb 0 n && (ltb n 50 || (eqb n 53 || eqb n 54))
 
-is_placed : (x : Place) → placed (place_numbers x).n ≡ true
-unfolding placed
+-- those refusals; the others are of one call each
+of_place : Refusal → Bool
+of_place StandingBytes = false
+of_place (NoEntry p q) = false
+of_place (NotLoop p q r) = false
+of_place NoWay = false
+of_place LoopList = false
+of_place (StartInside p) = false
+of_place TooManyNodes = false
+of_place x = true
+
+is_placed : (x : Refusal) → placed (refusal_numbers x).n ≡ of_place x
+unfolding placed of_place
 is_placed File = refl
 is_placed (Record p) = refl
 is_placed (RecordKind p q) = refl
@@ -107,157 +130,87 @@ is_placed (PairStarts p q) = refl
 is_placed (PairEnds p q) = refl
 is_placed (PairExpressionStep p q r) = refl
 is_placed (PairChartStep p q r) = refl
+is_placed StandingBytes = refl
+is_placed (NoEntry p q) = refl
+is_placed (NotLoop p q r) = refl
 is_placed FollowerSet = refl
 is_placed (OutputLength p) = refl
+is_placed NoWay = refl
+is_placed LoopList = refl
+is_placed (StartInside p) = refl
+is_placed TooManyNodes = refl
 
--- another number is none of theirs
-not_place : (x : Place) (n : ℕ) → placed n ≡ false → (place_numbers x).n ≢ n
-not_place x n h e = true≢false (sym (is_placed x) ∙ ap placed e ∙ h)
-
-numbered : (x : Place) → 0 < (place_numbers x).n
-unfolding placed
-numbered x = let h = not_place x 0 refl in omega (arith, h)
+-- none of them has another number
+not_place : (x : Refusal) (n : ℕ) → of_place x ≡ true → placed n ≡ false → (refusal_numbers x).n ≢ n
+not_place x n p h e = true≢false (sym (is_placed x ∙ p) ∙ ap placed e ∙ h)
 
 -- NO TWO REFUSALS HAVE THE SAME FOUR NUMBERS
-pub one_refusal : (x y : Place) → place_numbers x ≡ place_numbers y → x ≡ y
-one_refusal x y e = sym (place_at_lem x) ∙ ap place_at e ∙ place_at_lem y
+pub one_refusal : (x y : Refusal) → refusal_numbers x ≡ refusal_numbers y → x ≡ y
+one_refusal x y e = sym (refusal_at_numbers x) ∙ ap refusal_at e ∙ refusal_at_numbers y
 
--- and no two verdicts
-pub one_verdict : (x y : Verdict) → verdict_numbers x ≡ verdict_numbers y → x ≡ y
-one_verdict (verdict.Accepted v t l) (verdict.Accepted v' t' l') e =
-    let a : v ≡ v' = ap (λ (k : Numbers). k.p) e in
-    let b : t ≡ t' = ap (λ (k : Numbers). k.q) e in
-    let c : l ≡ l' = ap (λ (k : Numbers). k.r) e in
-    cc
-one_verdict (verdict.Accepted v t l) (verdict.Refused y) e = absurd (omega (arith, numbered y, ap (λ (k : Numbers). k.n) e))
-one_verdict (verdict.Refused x) (verdict.Accepted v t l) e = absurd (omega (arith, numbered x, ap (λ (k : Numbers). k.n) e))
-one_verdict (verdict.Refused x) (verdict.Refused y) e = ap verdict.Refused (one_refusal x y e)
+-- AND NO TWO ANSWERS OF A CALL: its values are told from one another by their numbers, of which the first is 0
+module _ {A : Type 0} (numbers : A → Numbers) (zero_first : (a : A) → (numbers a).n ≡ 0)
+    (told : (a b : A) → numbers a ≡ numbers b → a ≡ b) where
+  apart : (a : A) (y : Refusal) → numbers a ≡ refusal_numbers y → ⊥
+  apart a y e = omega (arith, numbered y, ap (λ (k : Numbers). k.n) e, zero_first a)
 
--- and no two answers of writing the expression's chart
-pub one_written : (x y : Written) → written_numbers x ≡ written_numbers y → x ≡ y
-one_written (written.Length n) (written.Length m) e = ap written.Length (ap (λ (k : Numbers). k.p) e)
-one_written (written.Length n) (written.Refused y) e = absurd (omega (arith, numbered y, ap (λ (k : Numbers). k.n) e))
-one_written (written.Refused x) (written.Length m) e = absurd (omega (arith, numbered x, ap (λ (k : Numbers). k.n) e))
-one_written (written.Refused x) (written.Refused y) e = ap written.Refused (one_refusal x y e)
+  pub one_answer : (x y : Result A Refusal) → answer_numbers numbers x ≡ answer_numbers numbers y → x ≡ y
+  one_answer (Ok a) (Ok b) e = ap Ok (told a b e)
+  one_answer (Ok a) (Err y) e = absurd (apart a y e)
+  one_answer (Err x) (Ok b) e = absurd (apart b x (sym e))
+  one_answer (Err x) (Err y) e = ap Err (one_refusal x y e)
 
--- and no two answers of a removal; the one that has these numbers
-removed_at : Numbers → Removed
-removed_at k =
-    cond (eqb k.n 0) removed.Done
-    (cond (eqb k.n 50) removed.StandingBytes
-    (cond (eqb k.n 51) (removed.NoEntry k.p k.q)
-    (cond (eqb k.n 52) (removed.NotLoop k.p k.q k.r)
-    (removed.Refused (place_at k)))))
+-- the verdicts
+pub one_verdict : (x y : Result Accepted Refusal) → verdict_numbers x ≡ verdict_numbers y → x ≡ y
+one_verdict = one_answer accepted_numbers (λ a. refl) (λ a b e. ap back e)
+  where
+    back : Numbers → Accepted
+    back k = record { vertices = k.p; transitions = k.q; loops = k.r }
 
-removed_at_lem : (x : Removed) → removed_at (removed_numbers x) ≡ x
-unfolding removed_at placed
-removed_at_lem removed.Done = refl
-removed_at_lem (removed.Refused place) =
-    rw (
-      ne_eqb (place_numbers place).n 0 (λ e. omega (arith, e, numbered place)),
-      ne_eqb (place_numbers place).n 50 (not_place place 50 refl),
-      ne_eqb (place_numbers place).n 51 (not_place place 51 refl),
-      ne_eqb (place_numbers place).n 52 (not_place place 52 refl),
-    ) (ap removed.Refused (place_at_lem place))
-removed_at_lem removed.StandingBytes = refl
-removed_at_lem (removed.NoEntry v l) = refl
-removed_at_lem (removed.NotLoop v l r) = refl
+-- the lengths of what is written: the expression's chart, the shortest way, the expression of a chart
+pub one_length : (x y : Result ℕ Refusal) → length_numbers x ≡ length_numbers y → x ≡ y
+one_length = one_answer (λ length. record { n = 0; p = length; q = 0; r = 0 }) (λ a. refl) (λ a b e. ap (λ (k : Numbers). k.p) e)
 
-pub one_removed : (x y : Removed) → removed_numbers x ≡ removed_numbers y → x ≡ y
-one_removed x y e = sym (removed_at_lem x) ∙ ap removed_at e ∙ removed_at_lem y
-
--- nor a removal's, above 52
-not_removed : (x : Removed) (n : ℕ) → 52 < n → placed n ≡ false → (removed_numbers x).n ≢ n
-not_removed removed.Done n h other e = omega (arith, h, e)
-not_removed (removed.Refused place) n h other e = not_place place n other e
-not_removed removed.StandingBytes n h other e = omega (arith, h, e)
-not_removed (removed.NoEntry v l) n h other e = omega (arith, h, e)
-not_removed (removed.NotLoop v l r) n h other e = omega (arith, h, e)
-
--- and no two answers of taking out several loops together
-together_at : Numbers → Together
-together_at k =
-    cond (eqb k.n 56) together.LoopList
-    (cond (eqb k.n 57) (together.StartInside k.p)
-    (together.Removal (removed_at k)))
-
-together_at_lem : (x : Together) → together_at (together_numbers x) ≡ x
-unfolding together_at placed
-together_at_lem (together.Removal x) =
-    rw (
-      ne_eqb (removed_numbers x).n 56 (not_removed x 56 (omega arith) refl),
-      ne_eqb (removed_numbers x).n 57 (not_removed x 57 (omega arith) refl),
-    ) (ap together.Removal (removed_at_lem x))
-together_at_lem together.LoopList = refl
-together_at_lem (together.StartInside p) = refl
-
-pub one_together : (x y : Together) → together_numbers x ≡ together_numbers y → x ≡ y
-one_together x y e = sym (together_at_lem x) ∙ ap together_at e ∙ together_at_lem y
+-- the removals, of one loop or of several together
+pub one_removal : (x y : Result Unit Refusal) → done_numbers x ≡ done_numbers y → x ≡ y
+one_removal = one_answer (λ u. record { n = 0; p = 0; q = 0; r = 0 }) (λ a. refl) (λ a b e. refl)
 
 -- only a start inside has 57
-pub only_57 : (x : Together) → (together_numbers x).n ≡ 57 → x ≡ together.StartInside (together_numbers x).p
-unfolding together_at
-only_57 x e = sym (together_at_lem x) ∙ rw e
+pub only_57 : (x : Result Unit Refusal) → (done_numbers x).n ≡ 57 → x ≡ Err (StartInside (done_numbers x).p)
+unfolding refusal_at
+only_57 (Ok u) e = absurd (true≢false (ap (λ n. eqb n 0) e))
+only_57 (Err x) e = ap Err (sym (refusal_at_numbers x) ∙ at_57)
+  where
+    at_57 : refusal_at (refusal_numbers x) ≡ StartInside (refusal_numbers x).p
+    at_57 = rw e
 
--- and no two answers of a follower
+-- the responses of a follower
 pub flag_back : (b : Bool) → eqb (flag b) 1 ≡ b
 flag_back true = refl
 flag_back false = refl
 
-followed_at : Numbers → Followed
-followed_at k =
-    cond (eqb k.n 0)
-    (cond (eqb k.p 1) (followed.Taken (eqb k.q 1) k.r)
-    (cond (eqb k.p 2) followed.Spoilt (followed.NotPossible (eqb k.q 1) k.r)))
-    (followed.Refused (place_at k))
+response_at : Numbers → Response
+response_at k =
+    cond (eqb k.p 1) (Taken (eqb k.q 1) k.r)
+    (cond (eqb k.p 2) Spoilt (NotPossible (eqb k.q 1) k.r))
 
-followed_at_lem : (x : Followed) → followed_at (followed_numbers x) ≡ x
-unfolding followed_at placed
-followed_at_lem (followed.Taken end offered) = ap (λ b. followed.Taken b offered) (flag_back end)
-followed_at_lem (followed.NotPossible end offered) = ap (λ b. followed.NotPossible b offered) (flag_back end)
-followed_at_lem followed.Spoilt = refl
-followed_at_lem (followed.Refused place) =
-    rw (ne_eqb (place_numbers place).n 0 (λ e. omega (arith, e, numbered place))) (ap followed.Refused (place_at_lem place))
+response_at_numbers : (x : Response) → response_at (response_numbers x) ≡ x
+unfolding response_at
+response_at_numbers (Taken end offered) = ap (λ b. Taken b offered) (flag_back end)
+response_at_numbers (NotPossible end offered) = ap (λ b. NotPossible b offered) (flag_back end)
+response_at_numbers Spoilt = refl
 
-pub one_followed : (x y : Followed) → followed_numbers x ≡ followed_numbers y → x ≡ y
-one_followed x y e = sym (followed_at_lem x) ∙ ap followed_at e ∙ followed_at_lem y
+pub one_followed : (x y : Result Response Refusal) → followed_numbers x ≡ followed_numbers y → x ≡ y
+one_followed = one_answer response_numbers first
+    (λ x y e. sym (response_at_numbers x) ∙ ap response_at e ∙ response_at_numbers y)
+  where
+    first : (x : Response) → (response_numbers x).n ≡ 0
+    first (Taken end offered) = refl
+    first (NotPossible end offered) = refl
+    first Spoilt = refl
 
--- and no two answers of the shortest way
-way_at : Numbers → Way
-way_at k =
-    cond (eqb k.n 0) (way.Length k.p)
-    (cond (eqb k.n 55) way.NoWay
-    (way.Refused (place_at k)))
-
-way_at_lem : (x : Way) → way_at (way_numbers x) ≡ x
-unfolding way_at placed
-way_at_lem (way.Length length) = refl
-way_at_lem (way.Refused place) =
-    rw (
-      ne_eqb (place_numbers place).n 0 (λ e. omega (arith, e, numbered place)),
-      ne_eqb (place_numbers place).n 55 (not_place place 55 refl),
-    ) (ap way.Refused (place_at_lem place))
-way_at_lem way.NoWay = refl
-
-pub one_way : (x y : Way) → way_numbers x ≡ way_numbers y → x ≡ y
-one_way x y e = sym (way_at_lem x) ∙ ap way_at e ∙ way_at_lem y
-
--- and no two answers of writing the expression of a chart
-extracted_at : Numbers → Extracted
-extracted_at k =
-    cond (eqb k.n 0) (extracted.Length k.p)
-    (cond (eqb k.n 58) extracted.TooManyNodes
-    (extracted.Refused (place_at k)))
-
-extracted_at_lem : (x : Extracted) → extracted_at (extracted_numbers x) ≡ x
-unfolding extracted_at placed
-extracted_at_lem (extracted.Length length) = refl
-extracted_at_lem (extracted.Refused place) =
-    rw (
-      ne_eqb (place_numbers place).n 0 (λ e. omega (arith, e, numbered place)),
-      ne_eqb (place_numbers place).n 58 (not_place place 58 refl),
-    ) (ap extracted.Refused (place_at_lem place))
-extracted_at_lem extracted.TooManyNodes = refl
-
-pub one_extracted : (x y : Extracted) → extracted_numbers x ≡ extracted_numbers y → x ≡ y
-one_extracted x y e = sym (extracted_at_lem x) ∙ ap extracted_at e ∙ extracted_at_lem y
+-- an answer whose numbers are those of its value or of its refusal has its numbers
+pub as_answer : {A : Type 0} {k : Numbers} (numbers : A → Numbers) (x : Result A Refusal)
+    → MatchResult x (λ a. k ≡ numbers a) (λ refusal. k ≡ refusal_numbers refusal) → k ≡ answer_numbers numbers x
+as_answer numbers (Ok a) e = e
+as_answer numbers (Err x) e = e
