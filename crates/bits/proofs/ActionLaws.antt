@@ -1,16 +1,15 @@
 -- Sets of actions, by their two halves.
 use mathlib.Core.Path.{◌≡◌, refl, sym, ap, ◌∙◌, subst}
 use mathlib.Core.Logic.Iff
-use mathlib.Core.Logic.{◌≢◌, ◌⊎◌, inl, inr, ◌↔◌, by_cases}
+use mathlib.Core.Logic.{◌⊎◌, inl, inr, ◌↔◌, by_cases}
 use mathlib.Core.Bool.{Bool, true, false, cond, ◌&&◌, false≢true}
 use mathlib.Core.List.{List, [], ◌∷◌}
 use Prim.Native.Nat.{ℕ, zero, suc, ◌+◌, ◌-◌, ◌*◌, ◌/◌, ◌%◌, ◌≤◌, ◌<◌}
-use native.Mathlib.Decide.{dec_lt, ℕ_discrete}
+use native.Mathlib.Decide.{dec_lt}
 use native.Mathlib.Omega.{arith}
 use borrow.Author.Tests.{lt-ltb, le-ltb, ltb-true}
-use lib.Dec.{ltb}
-use lib.ListN.{length, get_or, set, length-set}
-use lib.Seq.{get_or-set_same, get_or-set_other}
+use lib.Dec.{ltb, eqb}
+use lib.ListN.{length, get_or}
 use Rattle.bits.specs.declared.sets.Set.{Set}
 use Rattle.bits.specs.declared.actions.Actions.{Actions}
 use Rattle.bits.specs.Words.{On}
@@ -21,9 +20,9 @@ use Rattle.bits.specs.Tables.{row_of}
 use Rattle.bits.specs.Actions.{half_with, HasAction, no_actions, NoAction, ActionsWith, SameActions, ActionsFit}
 use Rattle.bits.specs.Actions.{action_count, ActionBytes}
 use Rattle.bits.proofs.Counts.{bit_counted, bit_uncounted}
-use Rattle.bits.proofs.Members.{⊎_map, both, none, low_has, has_low, high_has, has_high, one_set}
+use Rattle.bits.proofs.Members.{⊎_map, both, none, low_has, has_low, high_has, has_high, one_set, same_test}
 use Rattle.bits.proofs.Gains.{beyond, has_row}
-use Rattle.bits.proofs.SetBytes.{same_bits}
+use Rattle.bits.proofs.SetBytes.{Joined, same_bits}
 
 -- A NUMBER OF A HALF: those below 128 are in the first, 128 more in the second
 pub low_action : (s : Actions) (k : ℕ) → k < 128 → HasAction s k ↔ Has s.low k
@@ -129,64 +128,33 @@ rows_action words =
     let f : k % 64 ≡ (128 + k) % 64 = omega arith in
     rw (e, f) at (Iff.trans (high_action r k h) (has_row words 1 k h)))
 
--- THE BYTES of both halves, the first i of each
-pub record Joined (low high : List ℕ) (i : ℕ) (bytes : List ℕ) : Type 0 where
-  pub long : length bytes ≡ 32
-  pub first : (k : ℕ) → k < i → get_or bytes k 0 ≡ get_or low k 0
-  pub second : (k : ℕ) → k < i → get_or bytes (16 + k) 0 ≡ get_or high k 0
+-- `==` of two sets, b by what the derived `eq` ensures: they have the same members
+pub same_actions : {s t : Actions} {b : Bool}
+    → b ≡ ((eqb s.low.lo t.low.lo && eqb s.low.hi t.low.hi) && (eqb s.high.lo t.high.lo && eqb s.high.hi t.high.hi))
+    → ActionsFit s → ActionsFit t → (b ≡ true) ↔ SameActions s t
+same_actions {s} {t} e F G =
+    rw e (Iff.trans (both _ _ (same_test refl F.0 G.0) (same_test refl F.1 G.1)) (same_of s t))
 
+-- THE BYTES of both halves
 module _ {low high : List ℕ} where
-  pub joined_none : {bytes : List ℕ} → length bytes ≡ 32 → Joined low high 0 bytes
-  joined_none l = record { long = l; first = λ k h. absurd (omega (arith, h)); second = λ k h. absurd (omega (arith, h)) }
-
-  pub joined_more : {i : ℕ} {bytes : List ℕ} → i < 16 → Joined low high i bytes
-      → Joined low high (i + 1) (set (set bytes i (get_or low i 0)) (16 + i) (get_or high i 0))
-  joined_more {i} {bytes} h B = record {
-    long = length-set mid (16 + i) (get_or high i 0) ∙ longer;
-    first = λ k l. get_or-set_other mid (16 + i) k (get_or high i 0) 0 (λ z. omega (arith, z, l, h))
-        ∙ by_cases (ℕ_discrete k i) (here k) (there k l);
-    second = λ k l. by_cases (ℕ_discrete k i) (above k) (over k l);
-  }
-    where
-      mid : List ℕ
-      mid = set bytes i (get_or low i 0)
-
-      longer : length mid ≡ 32
-      longer = length-set bytes i (get_or low i 0) ∙ B.long
-
-      here : (k : ℕ) → k ≡ i → get_or mid k 0 ≡ get_or low k 0
-      here k e = rw e (get_or-set_same bytes i (get_or low i 0) 0 (omega (arith, B.long, h)))
-
-      there : (k : ℕ) → k < i + 1 → k ≢ i → get_or mid k 0 ≡ get_or low k 0
-      there k l n = get_or-set_other bytes i k (get_or low i 0) 0 n ∙ B.first k (omega (arith, l, n))
-
-      above : (k : ℕ) → k ≡ i → get_or (set mid (16 + i) (get_or high i 0)) (16 + k) 0 ≡ get_or high k 0
-      above k e = rw e (get_or-set_same mid (16 + i) (get_or high i 0) 0 (omega (arith, longer, h)))
-
-      over : (k : ℕ) → k < i + 1 → k ≢ i → get_or (set mid (16 + i) (get_or high i 0)) (16 + k) 0 ≡ get_or high k 0
-      over k l n =
-          get_or-set_other mid (16 + i) (16 + k) (get_or high i 0) 0 (λ z. n (omega (arith, z)))
-          ∙ get_or-set_other bytes i (16 + k) (get_or low i 0) 0 (λ z. omega (arith, z, h)) ∙ B.second k (omega (arith, l, n))
-
-  pub joined_all : {s : Actions} {i : ℕ} {bytes : List ℕ} → BytesOf s.low low → BytesOf s.high high → 16 ≤ i
-      → Joined low high i bytes → ActionBytes s bytes
-  joined_all {s} {i} {bytes} L H h B = record {
+  pub joined_all : {s : Actions} {bytes : List ℕ} → BytesOf s.low low → BytesOf s.high high → Joined 16 low high bytes → ActionBytes s bytes
+  joined_all {s} {bytes} L H B = record {
     long = B.long;
     below = λ k. by_cases (dec_lt k 16) (below_first k) (λ l. by_cases (dec_lt k 32) (below_second k (omega (arith, l))) (past k));
     exactly = by_halves (λ (a : ℕ). On (get_or bytes (a / 8) 0) (a % 8) ↔ HasAction s a)
-        (λ k l. rw (B.first (k / 8) (omega (arith, l, h))) (Iff.trans (L.exactly k l) (Iff.symm (low_action s k l))))
+        (λ k l. rw (B.first (k / 8) (omega (arith, l))) (Iff.trans (L.exactly k l) (Iff.symm (low_action s k l))))
         (λ k l. let e : (128 + k) / 8 ≡ 16 + k / 8 = omega arith in
         let f : (128 + k) % 8 ≡ k % 8 = omega arith in
-        rw (e, f, B.second (k / 8) (omega (arith, l, h))) (Iff.trans (H.exactly k l) (Iff.symm (high_action s k l))));
+        rw (e, f, B.second (k / 8) (omega (arith, l))) (Iff.trans (H.exactly k l) (Iff.symm (high_action s k l))));
   }
     where
       below_first : (k : ℕ) → k < 16 → get_or bytes k 0 < 256
-      below_first k l = rw (B.first k (omega (arith, l, h))) (L.below k)
+      below_first k l = rw (B.first k l) (L.below k)
 
       below_second : (k : ℕ) → 16 ≤ k → k < 32 → get_or bytes k 0 < 256
       below_second k l m =
           let e : 16 + (k - 16) ≡ k = omega (arith, l) in
-          let f = B.second (k - 16) (omega (arith, l, m, h)) in
+          let f = B.second (k - 16) (omega (arith, l, m)) in
           rw (ap (λ (j : ℕ). get_or bytes j 0) (sym e) ∙ f) (H.below (k - 16))
 
       past : (k : ℕ) → ¬ (k < 32) → get_or bytes k 0 < 256

@@ -2,8 +2,8 @@
 use mathlib.Core.Path.{◌≡◌, refl, sym, ◌∙◌, ap, subst}
 use mathlib.Core.Logic.{◌≢◌, ◌⊎◌, inl, inr, ⊎_elim, ◌↔◌, by_cases}
 use mathlib.Core.Bool.{Bool, true, false, cond}
-use mathlib.Core.List.{List, [], ◌∷◌}
-use Prim.Native.Nat.{ℕ, zero, suc, ◌+◌, ◌*◌, ◌/◌, ◌%◌, ◌≤◌, ◌<◌}
+use mathlib.Core.List.{List, [], ◌∷◌, ◌++◌}
+use Prim.Native.Nat.{ℕ, zero, suc, ◌+◌, ◌*◌, ◌/◌, ◌%◌, ◌^◌, ◌≤◌, ◌<◌}
 use native.Mathlib.Omega.{arith}
 use native.Mathlib.Decide.{ℕ_discrete, dec_lt}
 use borrow.Author.Tests.{ltb-true, ltb-false}
@@ -14,7 +14,9 @@ use Rattle.bits.specs.declared.sets.Set.{Set}
 use Rattle.bits.specs.Words.{On, With, Without}
 use Rattle.bits.specs.Sets.{Has, empty_set, Members, Union, SetFits}
 use Rattle.bits.specs.Tables.{row_of, HasRow, put_row, Words, Table, TableOf, Gains, When, Above, InFirst}
-use Rattle.bits.proofs.Members.{⊎_map, zero_off, none, one_set}
+use Rattle.bits.specs.Listed.{places_of}
+use Rattle.bits.proofs.Members.{⊎_map, none, one_set}
+use Rattle.bits.proofs.Given.{FromGiven, given_none, given_more, given_places}
 
 -- a list of one number
 pub filled : (n x w : ℕ) → w < n → get_or (replicate {A = ℕ} n x) w 0 ≡ x
@@ -243,51 +245,32 @@ module _ {x k r : ℕ} (W : Without x k r) where
   pub taken_or : (j : ℕ) → On x j → (j ≡ k) ⊎ On r j
   taken_or j h = by_cases (ℕ_discrete j k) (λ e. inl e) (λ e. inr ((W.exactly j).1 (h, e)))
 
--- `spread`: what is put in already, and what is still to come
-pub record Spreading (a : List ℕ) (v x : ℕ) (s : Set) (rest : ℕ) (t : List ℕ) : Type 0 where
-  pub left : (k : ℕ) → On rest k → On x k
-  pub gains : Gains (λ (w z : ℕ). ((k : ℕ) × (w ≡ v + k) × On x k × (¬ On rest k)) × Has s z) a t
+-- `spread`: what is put in already, for the bits that have been given
+pub record Spreading (a : List ℕ) (v : ℕ) (s : Set) (ks t : List ℕ) : Type 0 where
+  pub gains : Gains (λ (w z : ℕ). FromGiven (λ k y. y ≡ v + k) ks w × Has s z) a t
 
-pub spread_none : (a : List ℕ) (v x : ℕ) (s : Set) → Spreading a v x s x a
-spread_none a v x s = record { left = λ k h. h; gains = gains_none (λ w z h. h.0.3 h.0.2) }
+pub spread_none : (a : List ℕ) (v : ℕ) (s : Set) → Spreading a v s [] a
+spread_none a v s = record { gains = gains_none (λ w z h. given_none h.0) }
 
-module _ {a t : List ℕ} {v x : ℕ} {s : Set} {rest : ℕ} (S : Spreading a v x s rest t) where
-  pub spread_more : {k rest' : ℕ} {t' : List ℕ} → On rest k → Gains (λ (w z : ℕ). (w ≡ v + k) × Has s z) t t' → Without rest k rest' → Spreading a v x s rest' t'
-  spread_more {k} {rest'} {t'} on J W = record {
-    left = λ j h. S.left j (taken_less W j h);
-    gains = gains_then S.gains J (λ w z l. (⊎_elim (λ ((j, e, h, n), g). ((j, e, h, λ o. n (taken_less W j o)), g)) (λ (e, g). ((k, e, S.left k on, λ o. ((W.exactly k).0 o).1 refl), g)), back w z));
-  }
-    where
-      back : (w z : ℕ) → ((j : ℕ) × (w ≡ v + j) × On x j × (¬ On rest' j)) × Has s z → (((j : ℕ) × (w ≡ v + j) × On x j × (¬ On rest j)) × Has s z) ⊎ ((w ≡ v + k) × Has s z)
-      back w z ((j, e, h, n), g) = by_cases (ℕ_discrete j k) (λ f. inr (omega arith, g)) (λ f. inl ((j, e, h, λ o. n ((W.exactly j).1 (o, f))), g))
+pub spread_more : {a t t' ks : List ℕ} {v : ℕ} {s : Set} (k : ℕ) → Spreading a v s ks t → Gains (λ (w z : ℕ). (w ≡ v + k) × Has s z) t t'
+    → Spreading a v s (ks ++ k ∷ []) t'
+spread_more k S H = record {
+  gains = gains_then S.gains H (λ w z l. (
+    ⊎_elim (λ (g, h). ((given_more k).1 (inl g), h)) (λ (e, h). ((given_more k).1 (inr e), h)),
+    (λ (g, h). ⊎_map (λ f. (f, h)) (λ e. (e, h)) ((given_more k).0 g)),
+  ));
+}
 
-  pub spread_all : rest ≡ 0 → Gains (λ (w z : ℕ). Above v x w × Has s z) a t
-  spread_all e = gains_as (λ w z l. ((λ ((k, f, h, n), g). ((k, f, h), g)), (λ ((k, f, h), g). ((k, f, h, λ o. zero_off k (rw e at o)), g)))) S.gains
+pub spread_all : {a t ks : List ℕ} {v x : ℕ} {s : Set} → x < 2 ^ 64 → places_of x ≡ ks → Spreading a v s ks t
+    → Gains (λ (w z : ℕ). Above v x w × Has s z) a t
+spread_all f e S = gains_as (λ w z l. (
+  (λ (g, h). let (k, on, p) = (given_places f e).0 g in ((k, p, on), h)),
+  (λ ((k, p, on), h). ((given_places f e).1 (k, on, p), h)),
+)) S.gains
 
--- `united` and `united_from`: the sets so far, and those still to come; bit i is that of set f i
-pub record Uniting (a : List ℕ) (f : ℕ → ℕ) (x rest : ℕ) (s : Set) : Type 0 where
-  pub left : (i : ℕ) → On rest i → On x i
-  pub only : (w : ℕ) → Has s w → (i : ℕ) × On x i × HasRow a (f i) w
-  pub come : (w i : ℕ) → On x i → HasRow a (f i) w → Has s w ⊎ On rest i
-
-pub unite_none : (a : List ℕ) (f : ℕ → ℕ) (x : ℕ) {s : Set} → s ≡ empty_set → Uniting a f x x s
-unite_none a f x e = record { left = λ i h. h; only = λ w h. absurd (none w (rw e at h)); come = λ w i h g. inr h }
-
-module _ {a : List ℕ} {f : ℕ → ℕ} {x rest : ℕ} {s : Set} (S : Uniting a f x rest s) where
-  pub unite_more : {i rest' : ℕ} {q r : Set} → On rest i → q ≡ row_of a (f i) → Union s q r → Without rest i rest' → Uniting a f x rest' r
-  unite_more {i} {rest'} {q} {r} on e U W = record {
-    left = λ j h. S.left j (taken_less W j h);
-    only = λ w h. ⊎_elim (S.only w) (λ g. (i, S.left i on, rw e at g)) ((U w).0 h);
-    come = λ w j h k. come w j k (S.come w j h k);
-  }
-    where
-      come : (w j : ℕ) → HasRow a (f j) w → Has s w ⊎ On rest j → Has r w ⊎ On rest' j
-      come w j k (inl h) = inl ((U w).1 (inl h))
-      come w j k (inr h) = elim
-          (taken_or W j h) [ inl g ↦ inl ((U w).1 (inr (rw e (subst (λ (n : ℕ). HasRow a (f n) w) g k)))) | inr o ↦ inr o ]
-
-  pub unite_all : rest ≡ 0 → Members (λ (w : ℕ). (i : ℕ) × On x i × HasRow a (f i) w) s
-  unite_all e = record { exactly = λ w m. (S.only w, λ (i, h, k). ⊎_elim (λ g. g) (λ o. absurd (zero_off i (rw e at o))) (S.come w i h k)) }
+-- the numbers of a row that has been read
+pub row_members : (a : List ℕ) (v : ℕ) {s : Set} → s ≡ row_of a v → Members (HasRow a v) s
+row_members a v e = record { exactly = λ w l. ((λ h. rw e at h), (λ h. rw e h)) }
 
 -- `union_of`: no set, and one more
 pub union_none : (a : List ℕ) {s : Set} → s ≡ empty_set → Members (InFirst a 0) s
@@ -305,24 +288,6 @@ union_more a v {s} {q} {r} M e U = record { exactly = λ w l. ((λ h. there w l 
         by_cases (ℕ_discrete x v)
         (λ f. (U w).1 (inr (rw e (subst (λ (y : ℕ). HasRow a y w) f h))))
         (λ f. (U w).1 (inl ((M.exactly w l).1 (x, omega arith, h))))
-
--- `clear`: the first i words are 0
-pub record ZeroTo (a : List ℕ) (i : ℕ) : Type 0 where
-  pub each : (j : ℕ) → j < i → get_or a j 0 ≡ 0
-
-pub zero_none : (a : List ℕ) → ZeroTo a 0
-zero_none a = record { each = λ j h. absurd (omega (arith, h)) }
-
-pub zero_more : {a : List ℕ} {i : ℕ} → ZeroTo a i → i < length a → ZeroTo (set a i 0) (i + 1)
-zero_more {a} {i} Z l = record {
-  each = λ j h. by_cases (ℕ_discrete j i)
-      (λ e. rw e (get_or-set_same a i 0 0 l))
-      (λ n. get_or-set_other a i j 0 0 n ∙ Z.each j (omega (arith, h, n)));
-}
-
-pub zero_all : {a : List ℕ} {i n : ℕ} → ZeroTo a i → length a ≤ i → length a ≡ n → a ≡ replicate n 0
-zero_all {a} {i} {n} Z h e = ext_get_or 0 a (replicate n 0) (e ∙ sym (length-replicate {A = ℕ} n 0))
-    (λ j l. Z.each j (omega (arith, l, h)) ∙ sym (blank n j))
 
 -- ONE TABLE: what a table has determines its words
 row_fits : (a : List ℕ) (x : ℕ) → Words a → SetFits (row_of a x)

@@ -9,10 +9,13 @@ use lib.ListN.{length, get_or, get_or-eq_default}
 use borrow.Author.Count.{below_more}
 use Rattle.bits.specs.Bits.{HighestByte}
 
--- the highest of the first i bytes, and of one more
+-- the highest of the first i bytes, of none, and of one more
 pub record HighestTo (bytes : List ℕ) (i top : ℕ) : Type 0 where
   pub above : (j : ℕ) → j < i → get_or bytes j 0 ≤ top
   pub is_byte : 0 < top → (j : ℕ) × (j < i) × (get_or bytes j 0 ≡ top)
+
+pub highest_none : (bytes : List ℕ) → HighestTo bytes 0 0
+highest_none bytes = record { above = λ j h. absurd (omega (arith, h)); is_byte = λ h. absurd (omega (arith, h)) }
 
 pub highest_more : {bytes : List ℕ} {i top r : ℕ} → HighestTo bytes i top → r ≡ max top (get_or bytes i 0) → HighestTo bytes (i + 1) r
 highest_more {bytes} {i} {top} {r} H e = record {

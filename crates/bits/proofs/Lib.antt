@@ -5,9 +5,12 @@ pub mod Counts
 pub mod Packed
 pub mod Highest
 pub mod Members
+pub mod Listed
+pub mod Given
 pub mod Gains
 pub mod Ones
 pub mod Visits
 pub mod Determined
 pub mod SetBytes
 pub mod ActionLaws
+pub mod SetWriting

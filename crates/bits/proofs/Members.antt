@@ -2,7 +2,7 @@
 use mathlib.Core.Path.{◌≡◌, refl, sym, ◌∙◌, ap, subst}
 use mathlib.Core.Logic.Iff
 use mathlib.Core.Logic.{◌≢◌, ◌⊎◌, inl, inr, ⊎_elim, ◌↔◌, by_cases}
-use mathlib.Core.Bool.{Bool, true, false, cond, ◌&&◌, true≢false, false≢true}
+use mathlib.Core.Bool.{Bool, true, false, cond, ◌&&◌, false≢true}
 use Prim.Native.Nat.{ℕ, ◌+◌, ◌-◌, ◌/◌, ◌%◌, ◌^◌, ◌≤◌, ◌<◌}
 use native.Mathlib.Omega.{arith}
 use native.Mathlib.Decide.{dec_lt, ℕ_discrete}
@@ -16,7 +16,8 @@ use Rattle.bits.specs.First.{First}
 use Rattle.bits.specs.Packed.{Packed}
 use Rattle.bits.specs.Sets.{half_of, Has, empty_set, Empty, Members, SameMembers, Union, Intersection, Difference, Last}
 use Rattle.bits.specs.Sets.{SetFits, size_of}
-use Rattle.bits.proofs.Words.{digit_none, no_bit, subset_le, bit_below}
+use Rattle.std.proofs.lemmas.Nat.Bits.{bit_at-lt, bit_at-zero, same_from_bits}
+use Rattle.bits.proofs.Words.{no_bit, bit_below}
 use Rattle.bits.proofs.Counts.{bits_lt, bits_few}
 
 -- one side of a choice, told otherwise
@@ -34,7 +35,7 @@ both_equal w x y z = both (eqb w x) (eqb y z) (eqb-true w x, eq-eqb w x) (eqb-tr
 
 -- no bit of 0 is set
 pub zero_off : (k : ℕ) → ¬ On 0 k
-zero_off k h = omega (arith, digit_none k, h)
+zero_off k h = omega (arith, bit_at-zero k, h)
 
 -- nothing is in the empty set
 pub none : Empty empty_set
@@ -88,14 +89,6 @@ with_law s w r m f g y = ((λ h. ⊎_map (λ o. record { below = h.below; on = o
     back : Has s y ⊎ (y ≡ w) → Has r y
     back (inl h) = record { below = h.below; on = (pick (ltb y 64) refl h.below).1 (inl h.on) }
     back (inr e) = record { below = omega (arith, e, m); on = (pick (ltb y 64) refl (omega (arith, e, m))).1 (inr e) }
-
--- w too where the flag is set
-pub with_set : {s r : Set} {w : ℕ} {flag : Bool} → flag ≡ true → ((y : ℕ) → Has r y ↔ (Has s y ⊎ (y ≡ w)))
-    → (y : ℕ) → Has r y ↔ (Has s y ⊎ ((flag ≡ true) × (y ≡ w)))
-with_set f W y = ((λ h. ⊎_map (λ g. g) (λ e. (f, e)) ((W y).0 h)), (λ h. (W y).1 (⊎_map (λ g. g) (λ e. e.1) h)))
-
-pub with_unset : {s : Set} {w : ℕ} {flag : Bool} → flag ≡ false → (y : ℕ) → Has s y ↔ (Has s y ⊎ ((flag ≡ true) × (y ≡ w)))
-with_unset f y = (inl, (λ h. ⊎_elim (λ g. g) (λ e. absurd (true≢false (sym e.0 ∙ f))) h))
 
 -- a bit of a word is a number of the set
 pub low_has : (s : Set) (k : ℕ) → k < 64 → On s.lo k → Has s k
@@ -244,7 +237,7 @@ highest_low s r e H = record {
 
 -- ONE SET: words that have the same bits are the same, and so are sets with the same members
 pub same_word : (x y : ℕ) → ((k : ℕ) → On x k ↔ On y k) → x ≡ y
-same_word x y f = let a = subset_le x y (λ k. (f k).0) in let b = subset_le y x (λ k. (f k).1) in omega arith
+same_word x y f = same_from_bits x y (λ k. grind (arith, (f k).0, (f k).1, bit_at-lt x k, bit_at-lt y k))
 
 same : (s t : Set) → s.lo ≡ t.lo → s.hi ≡ t.hi → s ≡ t
 same s t e f = ap (λ (x : ℕ). record { lo = x; hi = s.hi }) e ∙ ap (λ (x : ℕ). record { lo = t.lo; hi = x }) f
@@ -264,13 +257,12 @@ one_set s t F G f = same s t (same_word s.lo t.lo low) (same_word s.hi t.hi high
       (λ on. let h = bit_below 64 t.hi k G.1 on in has_high s k h ((f (64 + k)).1 (high_has t k h on))),
     )
 
--- where the words of two sets are the same, and only there, they have the same members
-pub same_test : (s t : Set) → SetFits s → SetFits t → ((eqb s.lo t.lo && eqb s.hi t.hi) ≡ true) ↔ SameMembers s t
-same_test s t F G =
-    Iff.trans (both_equal s.lo t.lo s.hi t.hi) (
-      (λ (e, f). subst (SameMembers s) (same s t e f) (λ w. ((λ h. h), (λ h. h)))),
-      (λ f. let e = one_set s t F G f in (ap (λ (x : Set). x.lo) e, ap (λ (x : Set). x.hi) e)),
-    )
+-- `==` of two sets, b by what the derived `eq` ensures: they have the same members
+pub same_test : {s t : Set} {b : Bool} → b ≡ (eqb s.lo t.lo && eqb s.hi t.hi) → SetFits s → SetFits t → (b ≡ true) ↔ SameMembers s t
+same_test {s} {t} e F G = rw e (Iff.trans (both_equal s.lo t.lo s.hi t.hi) (
+  (λ (e, f). subst (SameMembers s) (same s t e f) (λ w. ((λ h. h), (λ h. h)))),
+  (λ f. let e = one_set s t F G f in (ap (λ (x : Set). x.lo) e, ap (λ (x : Set). x.hi) e)),
+))
 
 -- HOW MANY: a set within another that lacks one of its numbers has fewer, and none has more than 128
 pub size_few : (s : Set) → size_of s ≤ 128
@@ -330,20 +322,6 @@ below_law s b f g = record { exactly = λ w h. by_cases (dec_lt w 64) (low w) (�
         let l : w - 64 < 64 = omega arith in
         subst (λ (x : ℕ). Has s x ↔ (x < b)) q
         ((λ k. (g (w - 64) l).0 (has_high s (w - 64) l k)), (λ k. high_has s (w - 64) l ((g (w - 64) l).1 k)))
-
--- the numbers from a up to i
-pub between_none : (a : ℕ) → Members (λ (w : ℕ). (a ≤ w) × (w < a)) empty_set
-between_none a = record { exactly = λ w l. ((λ h. absurd (none w h)), (λ h. absurd (omega (arith, h.0, h.1)))) }
-
-pub between_more : {a i : ℕ} {s r : Set} → Members (λ (w : ℕ). (a ≤ w) × (w < i)) s → a ≤ i → ((y : ℕ) → Has r y ↔ (Has s y ⊎ (y ≡ i))) → Members (λ (w : ℕ). (a ≤ w) × (w < i + 1)) r
-between_more {a} {i} {s} {r} B l W = record { exactly = λ w m. ((λ h. there w m ((W w).0 h)), (λ h. (W w).1 (back w m h.0 h.1))) }
-  where
-    there : (w : ℕ) → w < 128 → Has s w ⊎ (w ≡ i) → (a ≤ w) × (w < i + 1)
-    there w m (inl h) = let (p, q) = (B.exactly w m).0 h in (p, omega arith)
-    there w m (inr e) = (omega arith, omega arith)
-
-    back : (w : ℕ) → w < 128 → a ≤ w → w < i + 1 → Has s w ⊎ (w ≡ i)
-    back w m p q = elim (ℕ_discrete w i) [ yes e ↦ inr e | no e ↦ inl ((B.exactly w m).1 (p, omega arith)) ]
 
 -- two words of eight bytes each
 pub packed_set : (b : List ℕ) (at : ℕ) (r : Set) → Packed b at 8 r.lo → Packed b (at + 8) 8 r.hi → Members (λ (w : ℕ). On (get_or b (at + w / 8) 0) (w % 8)) r

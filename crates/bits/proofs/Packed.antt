@@ -3,34 +3,27 @@ use mathlib.Core.Path.{◌≡◌, refl, sym, ap, ◌∙◌, subst}
 use mathlib.Core.Logic.{◌↔◌, by_cases}
 use mathlib.Core.List.{List}
 use Prim.Native.Nat.{ℕ, suc, ◌+◌, ◌-◌, ◌*◌, ◌/◌, ◌%◌, ◌^◌, ◌<◌}
-use native.Mathlib.Nat.{add-mul-div_left, mul_assoc, mul_comm, div-eq_of_lt, pow-suc}
 use native.Mathlib.Decide.{dec_lt}
 use native.Mathlib.Omega.{arith}
 use lib.ListN.{get_or}
-use lib.Pow.{pow-add, pow_pos}
+use Rattle.std.specs.Int.{bit_at}
+use Rattle.std.proofs.lemmas.Nat.Bits.{bit_at_cat_low, bit_at_cat_high}
 use Rattle.bits.specs.Words.{On}
 use Rattle.bits.specs.Packed.{four_at, Packed}
-use Rattle.bits.proofs.Words.{shifted}
 
 -- the bits of x, and those of y above them
 pub stacked_low : (x y j d : ℕ) → On (x + 2 ^ (j + suc d) * y) j ↔ On x j
 stacked_low x y j d =
-    let e : 2 ^ (j + suc d) * y ≡ 2 ^ j * (2 ^ suc d * y) = ap (λ (n : ℕ). n * y) (pow-add 2 j (suc d)) ∙ mul_assoc (2 ^ j) (2 ^ suc d) y in
-    let f : 2 ^ suc d * y ≡ 2 * (2 ^ d * y) = ap (λ (n : ℕ). n * y) (pow-suc 2 d ∙ mul_comm (2 ^ d) 2) ∙ mul_assoc 2 (2 ^ d) y in
-    let g : (x + 2 ^ (j + suc d) * y) / 2 ^ j ≡ x / 2 ^ j + 2 * (2 ^ d * y) = ap (λ (n : ℕ). (x + n) / 2 ^ j) e ∙ add-mul-div_left x (2 ^ suc d * y) (pow_pos j) ∙ ap (λ (n : ℕ). x / 2 ^ j + n) f in
-    even (x / 2 ^ j) (2 ^ d * y) g
-  where
-    even : (a z : ℕ) {n : ℕ} → n ≡ a + 2 * z → (n % 2 ≡ 1) ↔ (a % 2 ≡ 1)
-    even a z e = ((λ h. omega arith), (λ h. omega arith))
+    let e : x + 2 ^ (j + suc d) * y ≡ y * 2 ^ (j + suc d) + x = omega arith in
+    let f = bit_at_cat_low y (j + suc d) x j (omega arith) in
+    rw (e, f) ((λ h. h), (λ h. h))
 
 pub stacked_high : (x y k i : ℕ) → x < 2 ^ k → On (x + 2 ^ k * y) (k + i) ↔ On y i
 stacked_high x y k i l =
-    let e : (x + 2 ^ k * y) / 2 ^ k ≡ y = add-mul-div_left x y (pow_pos k) ∙ ap (λ (n : ℕ). n + y) (div-eq_of_lt l) ∙ zero_plus y in
-    let S = shifted (x + 2 ^ k * y) k i in
-    ((λ h. rw e at (S.1 h)), (λ h. S.0 (rw e h)))
-  where
-    zero_plus : (n : ℕ) → 0 + n ≡ n
-    zero_plus n = omega arith
+    let e : x + 2 ^ k * y ≡ y * 2 ^ k + x = omega arith in
+    let g : k + i - k ≡ i = omega arith in
+    let f = bit_at_cat_high y k x (k + i) l (omega arith) ∙ ap (bit_at y) g in
+    rw (e, f) ((λ h. h), (λ h. h))
 
 pub packed_one : {s : List ℕ} {at r : ℕ} → r ≡ get_or s at 0 → r < 256 → Packed s at 1 r
 packed_one {s} {at} {r} e l = record { below = l; exactly = λ j h. let f : at + j / 8 ≡ at = omega arith in let g : j % 8 ≡ j = omega arith in ((λ on. rw (f, g, ← e) on), (λ on. rw (f, g, ← e) at on)) }

@@ -3,13 +3,10 @@ use mathlib.Core.Path.{◌≡◌, refl, ◌∙◌}
 use mathlib.Core.Bool.{false}
 use mathlib.Core.List.{List, [], ◌∷◌, map}
 use Prim.Native.Nat.{ℕ, zero, suc, ◌*◌, ◌/◌, ◌%◌, ◌^◌, ◌≤◌, ◌<◌}
-use native.Mathlib.Nat.{pow-suc, pow-le-pow_right, zero-div}
+use native.Mathlib.Nat.{pow-suc, zero-div}
 use native.Mathlib.Omega.{arith}
 use lib.ListN.{length, get_or, get_or-map, get_or-eq_default}
 use Rattle.bits.specs.Bits.{has_bit}
-
-pub worth_high : (i : ℕ) → i < 8 → 2 ^ i ≤ 128
-worth_high i h = pow-le-pow_right {n = 2} (omega arith) {i = i} {j = 7} (omega arith)
 
 -- the first n powers of two: 1, then twice each of the others
 unfoldable pub powers : ℕ → List ℕ

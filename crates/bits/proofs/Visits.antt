@@ -1,21 +1,19 @@
 -- Going over the members of a set, the lowest first: what they are related to, and the set written as bytes by it.
-use Prim.Native.Nat.{ℕ, ◌/◌, ◌%◌, ◌≤◌, ◌<◌}
+use Prim.Native.Nat.{ℕ, ◌≤◌, ◌<◌}
 use mathlib.Core.Path.{◌≡◌, refl, sym, ◌∙◌, subst}
 use mathlib.Core.Logic.Iff
 use mathlib.Core.Logic.{◌≢◌, ◌⊎◌, inl, inr, ⊎_elim, ◌↔◌, by_cases}
 use mathlib.Core.Bool.{Bool, true, not, true≢false}
-use mathlib.Core.List.{List}
+use mathlib.Core.List.{List, ◌∷◌}
 use native.Mathlib.Decide.{ℕ_discrete}
-use native.Mathlib.Omega.{arith}
-use lib.ListN.{length, get_or, set, length-set, replicate}
-use lib.Seq.{get_or-set_same, get_or-set_other}
 use borrow.Author.Tests.{not-true}
 use Rattle.bits.specs.declared.sets.Set.{Set}
 use Rattle.bits.specs.First.{First}
-use Rattle.bits.specs.Words.{On, With}
 use Rattle.bits.specs.Sets.{Has, empty_set, Empty, Members, Union, size_of, BytesOf}
-use Rattle.bits.proofs.Gains.{blank}
-use Rattle.bits.proofs.Members.{⊎_map, none, lowest_empty, size_lt, zero_off}
+use Rattle.bits.specs.Listed.{members_of}
+use Rattle.bits.proofs.Listed.{turn}
+use Rattle.bits.proofs.Given.{Walk, left_within}
+use Rattle.bits.proofs.Members.{⊎_map, none, lowest_empty, size_lt}
 use Rattle.bits.proofs.SetBytes.{same_bits}
 
 -- u is left of the set s, and then `fewer` is left
@@ -26,6 +24,10 @@ pub record Visit (s left : Set) (u : ℕ) (fewer : Set) : Type 0 where
 
 pub visit_less : {s left fewer : Set} {u : ℕ} → Visit s left u fewer → size_of fewer < size_of left
 visit_less {left = left} {fewer} {u} T = size_lt fewer left u (λ y h. ((T.rest y).0 h).0) T.has (λ h. ((T.rest u).0 h).1 refl)
+
+-- a turn of a walk by `for u in set.members()`
+pub visit : {s left fewer : Set} {us : List ℕ} {u : ℕ} → Walk s left us → members_of left ≡ u ∷ members_of fewer → Visit s left u fewer
+visit {left = left} {fewer} {u = u} W e = let T = turn left fewer u e in record { within = left_within W; has = T.has; rest = T.rest }
 
 -- where the test for nothing fails, something is there
 pub not_empty : {s : Set} {b : Bool} → (b ≡ true) ↔ Empty s → not b ≡ true → ¬ Empty s
@@ -105,63 +107,6 @@ module _ {R : ℕ → ℕ → Type 0} {s : Set} where
 
   pub visits_all : {left r : Set} → Empty left → Members (FromPast R s left) r → Members (λ (w : ℕ). (u : ℕ) × Has s u × R u w) r
   visits_all E M = record { exactly = λ w h. Iff.trans (M.exactly w h) (past_all E) }
-
--- THE BYTES have the bits of those that are left no longer
-pub record Writing (s left : Set) (bytes : List ℕ) : Type 0 where
-  pub long : length bytes ≡ 16
-  pub below : (k : ℕ) → get_or bytes k 0 < 256
-  pub exactly : (w : ℕ) → w < 128 → On (get_or bytes (w / 8) 0) (w % 8) ↔ (Has s w × (¬ Has left w))
-
-pub writing_none : {s : Set} → Writing s s (replicate 16 0)
-writing_none = record {
-  long = refl;
-  below = λ k. omega (arith, blank 16 k);
-  exactly = λ w h. ((λ on. absurd (zero_off (w % 8) (rw (blank 16 (w / 8)) at on))), (λ (p, n). absurd (n p)));
-}
-
-pub writing_more : {s left fewer : Set} {v r : ℕ} {bytes : List ℕ} → Visit s left v fewer → With (get_or bytes (v / 8) 0) (v % 8) r → r < 256
-    → Writing s left bytes → Writing s fewer (set bytes (v / 8) r)
-writing_more {s} {left} {fewer} {v} {r} {bytes} T W low I = record {
-  long = length-set bytes (v / 8) r ∙ I.long;
-  below = λ k. by_cases (ℕ_discrete k (v / 8)) (λ e. rw (here k e) low) (λ n. rw (there k n) (I.below k));
-  exactly = λ w h. by_cases (ℕ_discrete (w / 8) (v / 8)) (same w h) (other w h);
-}
-  where
-    here : (k : ℕ) → k ≡ v / 8 → get_or (set bytes (v / 8) r) k 0 ≡ r
-    here k e = rw e (get_or-set_same bytes (v / 8) r 0 (omega (arith, I.long, T.has.below)))
-
-    there : (k : ℕ) → k ≢ v / 8 → get_or (set bytes (v / 8) r) k 0 ≡ get_or bytes k 0
-    there k n = get_or-set_other bytes (v / 8) k r 0 n
-
-    kept : {w : ℕ} → w ≢ v → ¬ Has left w ↔ (¬ Has fewer w)
-    kept {w} n = ((λ f g. f ((T.rest w).0 g).0), (λ f g. f ((T.rest w).1 (g, n))))
-
-    same : (w : ℕ) → w < 128 → w / 8 ≡ v / 8 → On (get_or (set bytes (v / 8) r) (w / 8) 0) (w % 8) ↔ (Has s w × (¬ Has fewer w))
-    same w h e = rw (here (w / 8) e) (to, from)
-      where
-        old : On (get_or bytes (v / 8) 0) (w % 8) ↔ (Has s w × (¬ Has left w))
-        old = rw e at (I.exactly w h)
-
-        to : On r (w % 8) → Has s w × (¬ Has fewer w)
-        to on = ⊎_elim
-            (λ p. let (q, n) = old.0 p in (q, λ g. n ((T.rest w).0 g).0))
-            (λ p. let z : w ≡ v = omega (arith, e, p) in (rw z (T.within v T.has), λ g. ((T.rest w).0 g).1 z))
-            ((W.exactly (w % 8)).0 on)
-
-        from : Has s w × (¬ Has fewer w) → On r (w % 8)
-        from (p, n) = (W.exactly (w % 8)).1 (by_cases (ℕ_discrete w v)
-            (λ z. inr (omega (arith, z)))
-            (λ z. inl (old.1 (p, (kept z).1 n))))
-
-    other : (w : ℕ) → w < 128 → w / 8 ≢ v / 8 → On (get_or (set bytes (v / 8) r) (w / 8) 0) (w % 8) ↔ (Has s w × (¬ Has fewer w))
-    other w h n =
-        let d : w ≢ v = λ z. n (omega (arith, z)) in
-        let k = kept d in
-        rw (there (w / 8) n) ((λ on. let (p, f) = (I.exactly w h).0 on in (p, k.0 f)), (λ (p, f). (I.exactly w h).1 (p, k.1 f)))
-
-pub writing_all : {s left : Set} {bytes : List ℕ} → Empty left → Writing s left bytes → BytesOf s bytes
-writing_all E I =
-    record { long = I.long; below = I.below; exactly = λ w h. ((λ on. ((I.exactly w h).0 on).0), (λ p. (I.exactly w h).1 (p, E w))) }
 
 -- one answer
 pub bytes_one : {s : Set} {r t : List ℕ} → BytesOf s r → BytesOf s t → r ≡ t

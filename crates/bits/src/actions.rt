@@ -1,13 +1,13 @@
 // Sets of actions: of the numbers below 256.
 ghost use Rattle.std.specs.Prelude.{◌≡◌, true, ◌⊎◌, ◌↔◌, ℕ, ◌+◌, ◌/◌, ◌%◌, ◌≤◌, length, get_or};
 ghost use Rattle.bits.specs.Words.{On};
-ghost use Rattle.bits.specs.Actions.{half_with, HasAction, no_actions, NoAction, ActionsWith, SameActions};
+ghost use Rattle.bits.specs.Actions.{half_with, HasAction, no_actions, NoAction, ActionsWith};
 ghost use Rattle.bits.specs.Actions.{action_count, ActionBytes};
 
 use super::{Set, read_set, set_bytes};
 
 // A set of the numbers below 256: `low` has those below 128, `high` the others, each less 128.
-#[derive(Clone, Copy)]
+#[derive(Clone, Copy, Debug, PartialEq, Eq, Hash)]
 pub struct Actions {
     pub low: Set,
     pub high: Set,
@@ -51,13 +51,6 @@ impl Actions {
         self.low.is_empty() & self.high.is_empty()
     }
 
-    // Whether two sets have the same members.
-    pub fn equals(self, other: Actions) -> bool
-        ensures { (result ≡ true) ↔ SameActions self other }
-    {
-        self.low.equals(other.low) & self.high.equals(other.high)
-    }
-
     // How many numbers are in the set.
     pub fn count(self) -> usize
         ensures { (result ≡ action_count self) × (result ≤ 256) }
@@ -81,14 +74,8 @@ pub fn read_actions(s: &[u8], at: usize) -> Actions
 pub fn action_bytes(set: Actions) -> [u8; 32]
     ensures { ActionBytes set result }
 {
-    let low = set_bytes(set.low);
-    let high = set_bytes(set.high);
     let mut bytes = [0u8; 32];
-    let mut i: usize = 0;
-    while i < 16 {
-        bytes[i] = low[i];
-        bytes[16 + i] = high[i];
-        i += 1;
-    }
+    bytes[..16].copy_from_slice(&set_bytes(set.low));
+    bytes[16..].copy_from_slice(&set_bytes(set.high));
     bytes
 }

@@ -4,8 +4,9 @@
 mod actions;
 mod sets;
 pub mod tables;
+mod walks;
 
-ghost use Rattle.std.specs.Prelude.{◌≡◌, true, ◌≢◌, ◌⊎◌, ◌↔◌, ℕ, max, ◌+◌, ◌*◌, ◌/◌, ◌%◌, ◌≤◌, ◌<◌, ◌^◌, length, get_or};
+ghost use Rattle.std.specs.Prelude.{◌≡◌, true, ◌≢◌, ◌⊎◌, ◌↔◌, ℕ, ◌+◌, ◌*◌, ◌/◌, ◌%◌, ◌≤◌, ◌<◌, ◌^◌, length, get_or};
 ghost use Rattle.bits.specs.Bits.{HighestByte};
 ghost use Rattle.bits.specs.Words.{On, LowestOn, HighestOn, With, Without};
 ghost use Rattle.bits.specs.First.{First};
@@ -14,9 +15,10 @@ ghost use Rattle.bits.specs.Packed.{two_at, four_at, Packed};
 
 pub use actions::{Actions, action_bytes, read_actions};
 pub use sets::{Marked, Set, fill_ones, read_set, set_bytes};
+pub use walks::{BitPlaces, Numbers, places};
 
 // The numbers from one up to another.
-#[derive(Clone, Copy)]
+#[derive(Clone, Copy, Debug, PartialEq, Eq, Hash)]
 pub struct Span {
     pub from: usize,
     pub to: usize,
@@ -27,7 +29,7 @@ pub fn byte(s: &[u8], i: usize) -> usize
     requires { i < length s.now }
     ensures { (result ≡ get_or s.now i 0) × (result < 256) }
 {
-    s[i] as usize
+    usize::from(s[i])
 }
 
 // Two bytes from `at` on as one number, the first the lowest.
@@ -35,14 +37,7 @@ pub fn read_u16(s: &[u8], at: usize) -> usize
     requires { at + 2 ≤ length s.now }
     ensures { (result ≡ two_at s.now at) × (result < 65536) }
 {
-    byte(s, at) + 256 * byte(s, at + 1)
-}
-
-// Four bytes as one number, the first the lowest.
-fn four_bytes(a: u8, b: u8, c: u8, d: u8) -> u32
-    ensures { result ≡ a + 256 * b + 65536 * c + 16777216 * d }
-{
-    a as u32 + 256 * (b as u32) + 65536 * (c as u32) + 16777216 * (d as u32)
+    usize::from(u16::from_le_bytes([s[at], s[at + 1]]))
 }
 
 // Four bytes from `at` on as one number. Where its bytes are indexed in one function, the compiler makes them one load.
@@ -50,7 +45,7 @@ pub fn read_u32(s: &[u8], at: usize) -> u32
     requires { at + 4 ≤ length s.now }
     ensures { (result ≡ four_at s.now at) × Packed s.now at 4 result }
 {
-    four_bytes(s[at], s[at + 1], s[at + 2], s[at + 3])
+    u32::from_le_bytes([s[at], s[at + 1], s[at + 2], s[at + 3]])
 }
 
 // Eight bytes from `at` on as one word.
@@ -60,27 +55,18 @@ pub fn read_u64(s: &[u8], at: usize) -> u64
 {
     let low = read_u32(s, at);
     let high = read_u32(s, at + 4);
-    low as u64 + 4294967296 * (high as u64)
-}
-
-// The greater of two bytes.
-fn greater(a: u8, b: u8) -> u8
-    ensures { result ≡ max a b }
-{
-    if a < b { b } else { a }
+    u64::from(low) + (u64::from(high) << 32)
 }
 
 // The highest of some bytes, or 0.
 pub fn highest_byte(bytes: &[u8]) -> usize
     ensures { (result < 256) × HighestByte bytes.now result }
 {
-    let mut top: u8 = 0;
-    let mut i: usize = 0;
-    while i < bytes.len() {
-        top = greater(top, bytes[i]);
-        i += 1;
+    let mut top = 0u8;
+    for byte in bytes {
+        top = top.max(*byte);
     }
-    top as usize
+    usize::from(top)
 }
 
 // What each bit of a byte is worth, bit 0 first; in hex, to be read beside a hex dump (document 02, C-13).
@@ -91,7 +77,7 @@ pub fn value(i: usize) -> usize
     requires { i < 8 }
     ensures { result ≡ 2 ^ i }
 {
-    BIT_VALUES[i] as usize
+    usize::from(BIT_VALUES[i])
 }
 
 // The byte with bit i too.
@@ -115,7 +101,7 @@ pub fn lowest_bit(x: u64) -> usize
     requires { x ≢ 0 }
     ensures { LowestOn x result }
 {
-    u64::trailing_zeros(x) as usize
+    x.trailing_zeros() as usize
 }
 
 // The highest bit of a word that is set.
@@ -123,7 +109,7 @@ pub fn highest_bit(x: u64) -> usize
     requires { x ≢ 0 }
     ensures { HighestOn x result }
 {
-    63 - u64::leading_zeros(x) as usize
+    63 - x.leading_zeros() as usize
 }
 
 // The word with bit k too.
@@ -160,14 +146,14 @@ pub fn bit_and(x: u64, y: u64) -> u64
 pub fn bit_and_not(x: u64, y: u64) -> u64
     ensures { (j : ℕ) → On result j ↔ (On x j × (¬ On y j)) }
 {
-    x ^ (x & y)
+    x & !y
 }
 
 // How many bits of a word are set.
 pub fn count_bits(x: u64) -> usize
     ensures { (result ≡ bits_below x 64) × (result ≤ 64) }
 {
-    u64::count_ones(x) as usize
+    x.count_ones() as usize
 }
 
 // How many bits of a word below bit k are set.
@@ -184,7 +170,7 @@ pub fn bits_below(k: usize) -> u64
     ensures { (j : ℕ) → On result j ↔ (j < k) }
 {
     if k == 64 {
-        return 18446744073709551615;
+        return u64::MAX;
     }
     (1u64 << k) - 1
 }
@@ -212,7 +198,7 @@ pub fn shift_right(x: u64, k: usize) -> u64
     x >> k
 }
 
-// The lowest bit of a word, from k on, that is set; or 64.
+// The lowest bit of a word, from k on, that is set; or 64, a place above all others.
 pub fn lowest_bit_from(x: u64, k: usize) -> usize
     requires { k < 64 }
     ensures { First (On x) k 64 result }

@@ -3,22 +3,22 @@ ghost use Rattle.std.specs.Prelude.{◌≡◌, true, ◌≢◌, ◌⊎◌, ◌�
 ghost use Rattle.bits.specs.First.{First};
 ghost use Rattle.bits.specs.Words.{On};
 ghost use Rattle.bits.specs.Sets.{Has, empty_set, Empty, Members, Union, Intersection, Difference, Last};
-ghost use Rattle.bits.specs.Sets.{SameMembers, size_of, half_of, BytesOf, Ones};
+ghost use Rattle.bits.specs.Sets.{size_of, half_of, BytesOf, Ones};
 
 use super::{
-    bit_and, bit_and_not, bit_or, bits_below, count_bits, highest_bit, is_set, lowest_bit,
+    Numbers, bit_and, bit_and_not, bit_or, bits_below, count_bits, highest_bit, is_set, lowest_bit,
     read_u64, with_bit, with_value, without_lowest,
 };
 
 // A set of the numbers below 128: bit k of `lo` for k, bit k of `hi` for 64 + k.
-#[derive(Clone, Copy)]
+#[derive(Clone, Copy, Debug, PartialEq, Eq, Hash)]
 pub struct Set {
     pub lo: u64,
     pub hi: u64,
 }
 
 // A set, and a number that has come into it.
-#[derive(Clone, Copy)]
+#[derive(Clone, Copy, Debug, PartialEq, Eq)]
 pub struct Marked {
     pub set: Set,
     pub at: usize,
@@ -86,10 +86,7 @@ impl Set {
         requires { w < 128 }
         ensures { (y : ℕ) → Has result y ↔ (Has self y ⊎ ((flag ≡ true) × (y ≡ w))) }
     {
-        if flag {
-            return self.with(w);
-        }
-        self
+        if flag { self.with(w) } else { self }
     }
 
     pub fn without(self, w: usize) -> Set
@@ -122,13 +119,6 @@ impl Set {
         (self.lo == 0) & (self.hi == 0)
     }
 
-    // Whether two sets have the same members.
-    pub fn equals(self, other: Set) -> bool
-        ensures { (result ≡ true) ↔ SameMembers self other }
-    {
-        (self.lo == other.lo) & (self.hi == other.hi)
-    }
-
     // The word of the two that has the bit of w.
     fn half(self, w: usize) -> u64
         ensures { result ≡ half_of self w }
@@ -142,7 +132,7 @@ impl Set {
         (w < 128) & is_set(self.half(w), w % 64)
     }
 
-    // The lowest number of the set, or 128.
+    // The lowest number of the set, or 128: a place above all others, which callers compare. `members` gives an Option.
     pub fn lowest(self) -> usize
         ensures { First (Has self) 0 128 result }
     {
@@ -181,6 +171,13 @@ impl Set {
         Marked { set: self, at: 0 }
     }
 
+    // Its numbers, the lowest first.
+    pub fn members(self) -> Numbers
+        ensures { result ≡ record { left = self } }
+    {
+        Numbers { left: self }
+    }
+
     // How many numbers are in the set.
     pub fn count(self) -> usize
         ensures { (result ≡ size_of self) × (result ≤ 128) }
@@ -210,13 +207,7 @@ impl Set {
         requires { (a ≤ b) × (b ≤ 128) }
         ensures { Members (λ (w : ℕ). (a ≤ w) × (w < b)) result }
     {
-        let mut set = Set::empty();
-        let mut i = a;
-        while i < b {
-            set = set.with(i);
-            i += 1;
-        }
-        set
+        Set::below(b).difference(Set::below(a))
     }
 }
 
@@ -226,13 +217,8 @@ pub fn fill_ones(ones: &mut [u64; 192], n: usize)
     requires { ones.old ≡ replicate 192 0 }
     ensures { Ones n ones.new }
 {
-    let mut k: usize = 0;
-    while k < n {
-        if k >= 64 {
-            return;
-        }
+    for k in 0..n.min(64) {
         ones[64 + k] = 1u64 << k;
-        k += 1;
     }
 }
 
@@ -247,18 +233,14 @@ pub fn read_set(s: &[u8], at: usize) -> Set
     }
 }
 
-// The set as sixteen bytes.
+// The set as sixteen bytes, by the values of bits (document 02, C-13), and so not by `to_le_bytes`.
 pub fn set_bytes(set: Set) -> [u8; 16]
     ensures { BytesOf set result }
 {
     let mut bytes = [0u8; 16];
-    let mut left = set;
-    let mut v = left.lowest();
-    while v < 128 {
-        let at = v / 8;
-        bytes[at] = with_value(bytes[at], v % 8);
-        left = left.without_lowest();
-        v = left.lowest();
+    for v in set.members() {
+        let byte = &mut bytes[v / 8];
+        *byte = with_value(*byte, v % 8);
     }
     bytes
 }

@@ -1,17 +1,10 @@
 use Prim.Native.Nat.{◌<◌}
 use native.Mathlib.Omega.{arith}
-use lib.Pow.{pow_pos}
 use Rattle.bits.proofs.Words.{bit_worth, below_on}
 use Rattle.bits.proofs.bits_below.Goals as goal
 
 pub returns-then-k-eq64 : goal.returns-then-k-eq64
 returns-then-k-eq64 c = λ j. rw c.if-k-eq64.true (below_on 64 j)
-
-pub overflow_sub-result : goal.overflow_sub-result
-overflow_sub-result c =
-    let k = c.args.k in
-    let h : k < 64 = omega (arith, c.requires, c.if-k-eq64.false) in
-    omega (arith, bit_worth k h, pow_pos k)
 
 pub returns : goal.returns
 returns c =

@@ -1,14 +1,9 @@
 use mathlib.Core.Path.{◌∙◌, ap}
-use native.Mathlib.Omega.{arith}
 use Prim.Native.Nat.{ℕ, ◌%◌}
-use lib.Pow.{pow_pos}
 use Rattle.bits.specs.Counts.{bits_below}
 use Rattle.bits.proofs.Words.{bit_worth}
 use Rattle.bits.proofs.Counts.{count_part}
 use Rattle.bits.proofs.count_bits_below.Goals as goal
-
-pub nonzero_rem-x : goal.nonzero_rem-x
-nonzero_rem-x c = omega (arith, bit_worth c.args.k c.requires, pow_pos c.args.k)
 
 pub returns : goal.returns
 returns c =

@@ -1,20 +1,20 @@
-use Rattle.bits.proofs.Gains.{unite_none, unite_more, unite_all}
+use Rattle.std.proofs.Common.{arith}
+use Rattle.bits.proofs.Gains.{row_members}
+use Rattle.bits.proofs.Given.{scan, scan_on, all_places, gives_none, gives_more, gives_places}
 use Rattle.bits.proofs.tables.united.Goals as goal
 
-pub loop-left-init : goal.loop-left-init
-loop-left-init c = (c.requires, unite_none _ _ _ c.empty-all.ensures)
+pub loop-i-init : goal.loop-i-init
+loop-i-init c = gives_none c.empty-all.ensures
 
-pub without_lowest-left-requires : goal.without_lowest-left-requires
-without_lowest-left-requires c = c.loop-left-test.true
+pub row-requires : goal.row-requires
+row-requires c =
+    let S = scan c.into_iter-i-iterator.ensures.into_iter_gives c.places-i-items.ensures c.loop-i.yielded_by in
+    omega (arith, (scan_on S c.in-Some.ensures.steps).0, c.requires)
 
-pub loop-left-smaller : goal.loop-left-smaller
-loop-left-smaller c = let L = c.lowest_bit.ensures in (c.without_lowest-left.ensures _ L).less L.on
-
-pub loop-left-preserved : goal.loop-left-preserved
-loop-left-preserved c =
-    let i = c.loop-left.invariant in
-    let L = c.lowest_bit.ensures in
-    (i.0, unite_more i.1 L.on c.row.ensures c.union-all.ensures (c.without_lowest-left.ensures _ L))
+pub loop-i-preserved : goal.loop-i-preserved
+loop-i-preserved c = gives_more c.loop-i.invariant (row_members _ _ c.row.ensures) c.union-all.ensures
 
 pub returns : goal.returns
-returns c = unite_all c.loop-left.invariant.1 c.loop-left-test.false
+returns c =
+    let S = scan c.into_iter-i-iterator.ensures.into_iter_gives c.places-i-items.ensures c.loop-i.yielded_by in
+    gives_places c.ranges.x.fits (all_places S c.in-None.ensures.steps.0) c.loop-i.invariant

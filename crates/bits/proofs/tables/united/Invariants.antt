@@ -1,10 +1,7 @@
-use Prim.Native.Nat.{ℕ, ◌≤◌}
-use lib.ListN.{length}
-use Rattle.bits.proofs.Gains.{Uniting}
+use Rattle.bits.specs.Sets.{Members}
+use Rattle.bits.specs.Tables.{HasRow}
+use Rattle.bits.proofs.Given.{FromGiven}
 use Rattle.bits.proofs.tables.united.Given as goal
 
-abbrev pub invariant-loop-left : goal.invariant-loop-left
-invariant-loop-left l = (128 ≤ length l.table) × Uniting l.table (λ (i : ℕ). i) l.x l.left l.all
-
-abbrev pub decreases-loop-left : goal.decreases-loop-left
-decreases-loop-left l = l.left
+abbrev pub invariant-loop-i : goal.invariant-loop-i
+invariant-loop-i l = Members (FromGiven (HasRow l.table) l.yielded) l.all

@@ -1,24 +1,20 @@
-use Rattle.bits.proofs.Gains.{unite_none, unite_more, unite_all}
+use Rattle.std.proofs.Common.{arith}
+use Rattle.bits.proofs.Gains.{row_members}
+use Rattle.bits.proofs.Given.{scan, scan_on, all_places, gives_none, gives_more, gives_places}
 use Rattle.bits.proofs.tables.united_from.Goals as goal
 
-pub loop-left-init : goal.loop-left-init
-loop-left-init c = (c.requires.0, c.requires.1, unite_none _ _ _ c.empty-all.ensures)
+pub loop-k-init : goal.loop-k-init
+loop-k-init c = gives_none c.empty-all.ensures
 
-pub without_lowest-left-requires : goal.without_lowest-left-requires
-without_lowest-left-requires c = c.loop-left-test.true
+pub overflow_add-v : goal.overflow_add-v
+overflow_add-v c =
+    let S = scan c.into_iter-k-iterator.ensures.into_iter_gives c.places-k-items.ensures c.loop-k.yielded_by in
+    omega (arith, (scan_on S c.in-Some.ensures.steps).0, c.requires.1)
 
-pub loop-left-smaller : goal.loop-left-smaller
-loop-left-smaller c = let L = c.lowest_bit.ensures in (c.without_lowest-left.ensures _ L).less L.on
-
-pub loop-left-preserved : goal.loop-left-preserved
-loop-left-preserved c =
-    let i = c.loop-left.invariant in
-    let L = c.lowest_bit.ensures in (
-      i.0,
-      i.1,
-      unite_more i.2 L.on c.row_or_empty.ensures c.union-all.ensures
-          (c.without_lowest-left.ensures _ L),
-    )
+pub loop-k-preserved : goal.loop-k-preserved
+loop-k-preserved c = gives_more c.loop-k.invariant (row_members _ _ c.row_or_empty.ensures) c.union-all.ensures
 
 pub returns : goal.returns
-returns c = unite_all c.loop-left.invariant.2 c.loop-left-test.false
+returns c =
+    let S = scan c.into_iter-k-iterator.ensures.into_iter_gives c.places-k-items.ensures c.loop-k.yielded_by in
+    gives_places c.ranges.x.fits (all_places S c.in-None.ensures.steps.0) c.loop-k.invariant
