@@ -10,9 +10,9 @@ use native.Mathlib.Omega.{arith}
 use lib.Dec.{eqb-suc-zero}
 use borrow.Author.Tests.{le-leb, lt-ltb, eq-eqb, leb-true, ltb-true, eqb-true}
 use Rattle.theory.specs.Least.{Least}
-use Rattle.report.specs.declared.Place.TheVariants.{ChartHeader, Transition}
-use Rattle.report.specs.declared.Stage.{Stage}
-use Rattle.report.specs.declared.Stage.TheVariants.{Passed, Refused}
+use Rattle.std.specs.Prelude.{Result, Ok, Err}
+use Rattle.report.specs.declared.Refusal.{Refusal}
+use Rattle.report.specs.declared.Refusal.TheVariants.{ChartHeader, Transition}
 use Rattle.chart.specs.Bodies.{count_of, key_of, key_at, HeaderFits, TransitionFits, WellFormed, Sound, Faulty}
 use Rattle.chart.specs.Checks.{◌and◌, header_ok, fits_at, above_at, ok_at, first_bad, check_of}
 
@@ -115,7 +115,7 @@ pub ok_holds : (b : List ℕ) (i : ℕ) → Sound b i → ok_at b i ≡ true
 unfolding ok_at
 ok_holds b i h = both (fits_holds b i h.fits) (above_holds b i h.above)
 
-pub check_header : (b : List ℕ) → header_ok b ≡ false → check_of b ≡ Refused ChartHeader
+pub check_header : (b : List ℕ) → header_ok b ≡ false → check_of b ≡ Err ChartHeader
 unfolding check_of
 check_header b h = rw h
 
@@ -124,12 +124,12 @@ unfolding check_of
 check_rest b h = rw h
 
 -- what the search for the lowest bad transition says
-all_sound : (b : List ℕ) (i n : ℕ) → ((k : ℕ) → i ≤ k → k < i + n → ok_at b k ≡ true) → first_bad b i n ≡ Passed
+all_sound : (b : List ℕ) (i n : ℕ) → ((k : ℕ) → i ≤ k → k < i + n → ok_at b k ≡ true) → first_bad b i n ≡ Ok tt
 unfolding first_bad
 all_sound b i zero h = refl
 all_sound b i (suc n) h = rw (h i (le_refl i) (omega arith)) (all_sound b (suc i) n (λ k l m. h k (omega arith) (omega arith)))
 
-first_at : (b : List ℕ) (i n k : ℕ) → i ≤ k → k < i + n → ok_at b k ≡ false → ((j : ℕ) → i ≤ j → j < k → ok_at b j ≡ true) → first_bad b i n ≡ Refused (Transition k)
+first_at : (b : List ℕ) (i n k : ℕ) → i ≤ k → k < i + n → ok_at b k ≡ false → ((j : ℕ) → i ≤ j → j < k → ok_at b j ≡ true) → first_bad b i n ≡ Err (Transition k)
 unfolding first_bad
 first_at b i zero k l h e below = absurd (omega arith)
 first_at b i (suc n) k l h e below =
@@ -139,24 +139,24 @@ first_at b i (suc n) k l h e below =
     (eq-or-lt_of_le l)
 
 -- what first_bad says by its answer
-abbrev Said : List ℕ → ℕ → ℕ → Stage → Type 0
-Said b i n Passed = (k : ℕ) → i ≤ k → k < i + n → ok_at b k ≡ true
-Said b i n (Refused p) = (k : ℕ) × (p ≡ Transition k) × (i ≤ k) × (k < i + n) × (ok_at b k ≡ false) × ((j : ℕ) → i ≤ j → j < k → ok_at b j ≡ true)
+abbrev Said : List ℕ → ℕ → ℕ → Result Unit Refusal → Type 0
+Said b i n (Ok tt) = (k : ℕ) → i ≤ k → k < i + n → ok_at b k ≡ true
+Said b i n (Err p) = (k : ℕ) × (p ≡ Transition k) × (i ≤ k) × (k < i + n) × (ok_at b k ≡ false) × ((j : ℕ) → i ≤ j → j < k → ok_at b j ≡ true)
 
 said : (b : List ℕ) (i n : ℕ) → Said b i n (first_bad b i n)
 unfolding first_bad
 said b i zero = λ k l h. absurd (omega arith)
 said b i (suc n) =
     told (ok_at b i)
-    (λ t. subst (λ (x : Bool). Said b i (suc n) (cond x (first_bad b (suc i) n) (Refused (Transition i)))) (sym t) (more t (first_bad b (suc i) n) (said b (suc i) n)))
-    (λ f. subst (λ (x : Bool). Said b i (suc n) (cond x (first_bad b (suc i) n) (Refused (Transition i)))) (sym f) (i, refl, le_refl i, omega arith, f, λ j l h. absurd (omega arith)))
+    (λ t. subst (λ (x : Bool). Said b i (suc n) (cond x (first_bad b (suc i) n) (Err (Transition i)))) (sym t) (more t (first_bad b (suc i) n) (said b (suc i) n)))
+    (λ f. subst (λ (x : Bool). Said b i (suc n) (cond x (first_bad b (suc i) n) (Err (Transition i)))) (sym f) (i, refl, le_refl i, omega arith, f, λ j l h. absurd (omega arith)))
   where
     here_or : ok_at b i ≡ true → (k : ℕ) → i ≤ k → (suc i ≤ k → ok_at b k ≡ true) → ok_at b k ≡ true
     here_or t k l f = ⊎_elim (λ p. subst (λ (j : ℕ). ok_at b j ≡ true) p t) f (eq-or-lt_of_le l)
 
-    more : ok_at b i ≡ true → (s : Stage) → Said b (suc i) n s → Said b i (suc n) s
-    more t Passed h = λ k l m. here_or t k l (λ p. h k p (omega arith))
-    more t (Refused p) (k, e, l, m, f, below) = (k, e, omega arith, omega arith, f, λ j q r. here_or t j q (λ s. below j s r))
+    more : ok_at b i ≡ true → (s : Result Unit Refusal) → Said b (suc i) n s → Said b i (suc n) s
+    more t (Ok tt) h = λ k l m. here_or t k l (λ p. h k p (omega arith))
+    more t (Err p) (k, e, l, m, f, below) = (k, e, omega arith, omega arith, f, λ j q r. here_or t j q (λ s. below j s r))
 
 -- each above the one before it, so each above all before it
 climbs : (b : List ℕ) (i d : ℕ) → ((k : ℕ) → k < count_of b → Sound b k) → i + suc d < count_of b → key_at b i < key_at b (i + suc d)
@@ -181,9 +181,9 @@ well_sound : (b : List ℕ) → WellFormed b → (i : ℕ) → i < count_of b �
 well_sound b w i h = record { fits = w.each i h; above = λ j e. w.ascending j i (omega arith) h }
 
 -- what check_of says by its answer
-abbrev Means : List ℕ → Stage → Type 0
-Means b Passed = WellFormed b
-Means b (Refused p) = ((p ≡ ChartHeader) × ¬ HeaderFits b) ⊎ ((i : ℕ) × (p ≡ Transition i) × HeaderFits b × Least (Faulty b) i)
+abbrev Means : List ℕ → Result Unit Refusal → Type 0
+Means b (Ok tt) = WellFormed b
+Means b (Err p) = ((p ≡ ChartHeader) × ¬ HeaderFits b) ⊎ ((i : ℕ) × (p ≡ Transition i) × HeaderFits b × Least (Faulty b) i)
 
 means : (b : List ℕ) → Means b (check_of b)
 means b =
@@ -191,9 +191,9 @@ means b =
     (λ t. subst (Means b) (sym (check_rest b t)) (go (header_true b t) (first_bad b 0 (count_of b)) (said b 0 (count_of b))))
     (λ f. subst (Means b) (sym (check_header b f)) (inl (refl, λ h. differ (header_ok b) (header_fits b h) f)))
   where
-    go : HeaderFits b → (s : Stage) → Said b 0 (count_of b) s → Means b s
-    go head Passed h = well_of b head (λ k l. ok_true b k (h k (omega arith) (omega arith)))
-    go head (Refused p) (k, e, l, m, f, below) = inr (
+    go : HeaderFits b → (s : Result Unit Refusal) → Said b 0 (count_of b) s → Means b s
+    go head (Ok tt) h = well_of b head (λ k l. ok_true b k (h k (omega arith) (omega arith)))
+    go head (Err p) (k, e, l, m, f, below) = inr (
       k,
       e,
       head,
@@ -204,34 +204,34 @@ means b =
     )
 
 -- a body passes just when it is well formed
-pub well_formed : (b : List ℕ) → check_of b ≡ Passed → WellFormed b
+pub well_formed : (b : List ℕ) → check_of b ≡ Ok tt → WellFormed b
 well_formed b e = subst (Means b) e (means b)
 
-pub passes : (b : List ℕ) → WellFormed b → check_of b ≡ Passed
+pub passes : (b : List ℕ) → WellFormed b → check_of b ≡ Ok tt
 passes b w =
     check_rest b (header_fits b w.header)
     ∙ all_sound b 0 (count_of b) (λ k l h. ok_holds b k (well_sound b w k (omega arith)))
 
-pub check_passed : (b : List ℕ) → (check_of b ≡ Passed) ↔ WellFormed b
+pub check_passed : (b : List ℕ) → (check_of b ≡ Ok tt) ↔ WellFormed b
 check_passed b = (well_formed b, passes b)
 
 -- 20: the header does not fit
-pub check_20 : (b : List ℕ) → (check_of b ≡ Refused ChartHeader) ↔ (¬ HeaderFits b)
+pub check_20 : (b : List ℕ) → (check_of b ≡ Err ChartHeader) ↔ (¬ HeaderFits b)
 check_20 b = (λ e. from (subst (Means b) e (means b)), λ n. told (header_ok b) (λ t. absurd (n (header_true b t))) (check_header b))
   where
-    from : Means b (Refused ChartHeader) → ¬ HeaderFits b
+    from : Means b (Err ChartHeader) → ¬ HeaderFits b
     from (inl x) = x.1
     from (inr (i, e, head, l)) = let z : ◌≡◌ {A = ℕ} 0 1 = cc in absurd (omega arith)
 
 -- 21: the place is the lowest transition that is malformed or not above the one before it
-pub check_21 : (b : List ℕ) (i : ℕ) → (check_of b ≡ Refused (Transition i)) ↔ (HeaderFits b × Least (Faulty b) i)
+pub check_21 : (b : List ℕ) (i : ℕ) → (check_of b ≡ Err (Transition i)) ↔ (HeaderFits b × Least (Faulty b) i)
 check_21 b i = (λ e. from (subst (Means b) e (means b)), to)
   where
-    from : Means b (Refused (Transition i)) → HeaderFits b × Least (Faulty b) i
+    from : Means b (Err (Transition i)) → HeaderFits b × Least (Faulty b) i
     from (inl x) = let e = x.0 in let z : ◌≡◌ {A = ℕ} 0 1 = cc in absurd (omega arith)
     from (inr (k, e, head, l)) = let p : k ≡ i = cc in (head, subst (Least (Faulty b)) p l)
 
-    to : HeaderFits b × Least (Faulty b) i → check_of b ≡ Refused (Transition i)
+    to : HeaderFits b × Least (Faulty b) i → check_of b ≡ Err (Transition i)
     to (head, l) =
         check_rest b (header_fits b head)
         ∙ first_at b 0 (count_of b) i (omega arith) (omega (arith, l.holds.0)) (told (ok_at b i) (λ t. absurd (l.holds.1 (ok_true b i t))) (λ f. f))

@@ -9,8 +9,8 @@ use borrow.Author.Count.{below_more}
 use borrow.Author.Tests.{le-leb, lt-ltb, leb-true, ltb-true}
 use Rattle.bits.specs.Bits.{Bytes}
 use Rattle.bits.specs.Packed.{four_at}
-use Rattle.report.specs.declared.Place.TheVariants.{Transition}
-use Rattle.report.specs.declared.Stage.TheVariants.{Passed, Refused}
+use Rattle.std.specs.Prelude.{Ok, Err}
+use Rattle.report.specs.declared.Refusal.TheVariants.{Transition}
 use Rattle.chart.specs.Bodies.{vertices_of, count_of, action_of, to_of, pad_of, key_at, HeaderFits, Sound, SoundTo}
 use Rattle.chart.specs.Checks.{check_of}
 use Rattle.chart.specs.Codes.{code_key, code_rises, code_ok, Turn}
@@ -84,7 +84,7 @@ module _ {b : List ℕ} {p z : ℕ} (T : Turn b p z) where
       high (suc j) e S = omega (arith, T.later j (omega arith), S.above j refl)
 
 -- all have passed
-pub turn_end : {b : List ℕ} {p : ℕ} → SoundTo b p → length b < p + 4 → Passed ≡ check_of b
+pub turn_end : {b : List ℕ} {p : ℕ} → SoundTo b p → length b < p + 4 → (Ok tt) ≡ check_of b
 turn_end {b} S l = sym (passes b (well_of b S.header (λ k h. S.each k (omega (arith, S.place, S.header.whole)))))
 
 -- the key is above the one before it
@@ -160,9 +160,9 @@ module _ {b : List ℕ} (B : Bytes b) {p z v w k : ℕ} (T : Turn b p z) (l : p 
   unfolding code_ok
   turn_step e = turn_rises (left _ _ e) (ltb-true _ _ (right _ _ e))
 
-  pub turn_stop : code_ok w k v z ≡ false → Refused (Transition ((p - 4) / 4)) ≡ check_of b
-  turn_stop f =
-      let s : (p - 4) / 4 ≡ i = omega (arith, T.sound.place) in
+  pub turn_stop : {n : ℕ} → p ≡ 4 * n + 4 → code_ok w k v z ≡ false → Err (Transition n) ≡ check_of b
+  turn_stop {n} q f =
+      let s : n ≡ i = omega (arith, q, T.sound.place) in
       rw s (sym ((check_21 b i).1 (T.sound.header, record { holds = (inside, unsound); lowest = λ j g x. x.1 (T.sound.each j g) })))
     where
       unsound : ¬ Sound b i

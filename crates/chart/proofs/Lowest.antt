@@ -1,5 +1,5 @@
 -- The lowest action that leads from a set into another, vertex by vertex.
-use Prim.Native.Nat.{ℕ, ◌+◌, ◌≤◌, ◌<◌}
+use Prim.Native.Nat.{ℕ, min, ◌+◌, ◌≤◌, ◌<◌}
 use mathlib.Core.Path.{◌≡◌, sym, subst}
 use mathlib.Core.Logic.{⊎_elim, by_cases}
 use mathlib.Core.List.{List}
@@ -56,6 +56,15 @@ module _ {part : List ℕ} {t : Set} {i : ℕ} (L : Looking part t i) where
     holds = λ g. record { to = w; acts = record { at = i; within = h; enters = sym f; holds = record { is = sym e } }; member = m };
     before = λ a p q. lower_misses (λ g. omega (arith, e)) a q;
   }
+
+  -- transition i leads into the set
+  pub looking_least : {x w best r : ℕ} → i < count_in part → x ≡ action_in part i → w ≡ to_in part i → Has t w → r ≡ min best x
+      → First (EntersSet part t) 0 best r
+  looking_least {x} {w} {best} {r} h e f m g =
+      by_cases (dec_lt x best)
+      (λ l. let z : x ≡ r = omega (arith, l, g) in subst (First (EntersSet part t) 0 best) z (looking_finds h e f m l))
+      (λ l. let z : best ≡ r = omega (arith, l, g) in
+      subst (First (EntersSet part t) 0 best) z (looking_stops (λ k. omega (arith, e, l))))
 
 -- of the part that a lookup hands back
 pub row_lowest : {b part : List ℕ} {u n r : ℕ} {t : Set} → PartOf b u part → First (EntersSet part t) 0 n r → First (ActsInto b u t) 0 n r

@@ -11,8 +11,8 @@ use lib.Dec.{leb}
 use borrow.Author.Tests.{eq-eqb, ne_eqb, leb-true, leb-false}
 use Rattle.theory.specs.Tests.{lowest}
 use Rattle.theory.proofs.Tests.{lowest_stops}
-use Rattle.report.specs.declared.Stage.{Stage}
-use Rattle.report.specs.declared.Stage.TheVariants.{Passed, Refused}
+use Rattle.std.specs.Prelude.{Result, Ok, Err}
+use Rattle.report.specs.declared.Refusal.{Refusal}
 use Rattle.bits.specs.Bits.{Bytes}
 use Rattle.bits.specs.declared.Span.{Span}
 use Rattle.chart.specs.Bodies.{vertices_of, count_of, from_of, WellFormed}
@@ -62,7 +62,7 @@ module _ (b : List ℕ) (n v lo hi : ℕ) (L : Split (FromBelow b v) n lo) (H : 
       let s₃ : leaving_at b v hi (n - hi) ≡ [] = none_leave b v hi (n - hi) (λ k l h. at_high L H k l (omega arith)) in
       cc (zero-add lo, append-nil (take (4 * (hi - lo)) (drop (4 * lo + 4) b)))
 
-leaving_passed : (b : List ℕ) (v : ℕ) → check_of b ≡ Passed → leaving_of b v ≡ leaving_at b v 0 (count_of b)
+leaving_passed : (b : List ℕ) (v : ℕ) → check_of b ≡ Ok tt → leaving_of b v ≡ leaving_at b v 0 (count_of b)
 unfolding leaving_of
 leaving_passed b v e = rw e
 
@@ -73,7 +73,7 @@ pub record RangeFits (b : List ℕ) (r : Span) : Type 0 where
   pub few : count_of b ≤ 8192
   pub whole : length b ≡ 4 + 4 * count_of b
 
-pub range_fits : {b : List ℕ} {r : Span} → check_of b ≡ Passed → OneRange b r → RangeFits b r
+pub range_fits : {b : List ℕ} {r : Span} → check_of b ≡ Ok tt → OneRange b r → RangeFits b r
 range_fits {b} e (v, R) = let W = well_formed b e in record {
   order = low_high R.begins R.ends;
   within = R.ends.within;
@@ -81,12 +81,12 @@ range_fits {b} e (v, R) = let W = well_formed b e in record {
   whole = W.header.whole;
 }
 
-pub leaving_range : {b : List ℕ} {v : ℕ} {r : Span} → check_of b ≡ Passed → RangeOf b v r
+pub leaving_range : {b : List ℕ} {v : ℕ} {r : Span} → check_of b ≡ Ok tt → RangeOf b v r
     → take (4 * r.to + 4 - (4 * r.from + 4)) (drop (4 * r.from + 4) b) ≡ leaving_of b v
 leaving_range {b} {v} {r} e R = leaving_part_lem b (count_of b) v r.from r.to R.begins R.ends ∙ sym (leaving_passed b v e)
 
 -- EMPTY where 20 or 21 refuses the body
-pub leaving_refused : (b : List ℕ) (v : ℕ) {p : _} → check_of b ≡ Refused p → leaving_of b v ≡ []
+pub leaving_refused : (b : List ℕ) (v : ℕ) {p : _} → check_of b ≡ Err p → leaving_of b v ≡ []
 unfolding leaving_of
 leaving_refused b v e = rw e
 
@@ -134,7 +134,7 @@ module _ (b : List ℕ) (B : Bytes b) where
       let s = lowest_stops (λ i. leb u (from_of b i)) 0 (count_of b) in
       first_above b B W (count_of b) u (from u) refl (omega (arith, s.within)) (λ k h. leb-false _ _ (s.below k (omega arith) h)) (λ h. leb-true _ _ (s.passes (omega arith)))
 
-  passed_part : (v : ℕ) → check_of b ≡ Passed → leaving_of b v ≡ take (4 * from (v + 1) + 4 - (4 * from v + 4)) (drop (4 * from v + 4) b)
+  passed_part : (v : ℕ) → check_of b ≡ Ok tt → leaving_of b v ≡ take (4 * from (v + 1) + 4 - (4 * from v + 4)) (drop (4 * from v + 4) b)
   passed_part v e = let W = well_formed b e in
       leaving_passed b v e ∙ sym (leaving_part_lem b (count_of b) v (from v) (from (v + 1)) (parts W v) (parts W (v + 1)))
 
@@ -142,14 +142,14 @@ module _ (b : List ℕ) (B : Bytes b) where
   pub leaving_is_part : (v : ℕ) → (a n : ℕ) × (leaving_of b v ≡ take n (drop a b))
   leaving_is_part v = go (check_of b) refl
     where
-      go : (s : Stage) → check_of b ≡ s → (a n : ℕ) × (leaving_of b v ≡ take n (drop a b))
-      go (Refused p) e = (0, 0, leaving_refused b v e)
-      go Passed e = (4 * from v + 4, 4 * from (v + 1) + 4 - (4 * from v + 4), passed_part v e)
+      go : (s : Result Unit Refusal) → check_of b ≡ s → (a n : ℕ) × (leaving_of b v ≡ take n (drop a b))
+      go (Err p) e = (0, 0, leaving_refused b v e)
+      go (Ok tt) e = (4 * from v + 4, 4 * from (v + 1) + 4 - (4 * from v + 4), passed_part v e)
 
   -- BY INDEX: the transitions of v, where the body passes
-  pub leaving_by_index : (v : ℕ) → check_of b ≡ Passed → PartOf b v (leaving_of b v)
+  pub leaving_by_index : (v : ℕ) → check_of b ≡ Ok tt → PartOf b v (leaving_of b v)
   leaving_by_index v e = let W = well_formed b e in part_between W (parts W v) (parts W (v + 1)) (passed_part v e)
 
   -- and no other list is
-  pub leaving_only : {v : ℕ} {part : List ℕ} → check_of b ≡ Passed → PartOf b v part → part ≡ leaving_of b v
+  pub leaving_only : {v : ℕ} {part : List ℕ} → check_of b ≡ Ok tt → PartOf b v part → part ≡ leaving_of b v
   leaving_only {v} e S = part_one S (leaving_by_index v e)

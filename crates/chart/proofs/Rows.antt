@@ -1,14 +1,15 @@
 -- Where the transitions of a vertex lead that have a property, as a set, gathered in their order.
 use mathlib.Core.Path.{◌≡◌, refl, sym, ap, ◌∙◌, subst}
 use mathlib.Core.Bool.{Bool, true, ◌&&◌}
-use mathlib.Core.List.{List}
+use mathlib.Core.List.{List, []}
 use mathlib.Core.Logic.{by_cases, ⊎_elim, ◌⊎◌, inl, inr, ◌↔◌}
-use Prim.Native.Nat.{ℕ, ◌+◌, ◌-◌, ◌*◌, ◌≤◌, ◌<◌}
+use Prim.Native.Nat.{ℕ, zero, suc, ◌/◌, ◌+◌, ◌-◌, ◌*◌, ◌≤◌, ◌<◌}
 use native.Mathlib.Decide.{ℕ_discrete, dec_lt}
 use native.Mathlib.Omega.{arith}
 use lib.Dec.{eqb}
-use lib.ListN.{length, get_or, drop, length-drop}
-use lib.Seq.{get_or-take, get_or-drop, length-take-le}
+use lib.ListN.{length, get_or, take, drop, length-drop}
+use Rattle.std.specs.Simd.{first_chunks}
+use lib.Seq.{get_or-take, get_or-drop, length-take-le, take_all}
 use Rattle.theory.specs.Tests.{Decides}
 use Rattle.theory.proofs.Tests.{decides_same, decides_and, decides_eqb}
 use Rattle.bits.specs.Bits.{Bytes}
@@ -17,16 +18,16 @@ use Rattle.bits.specs.Sets.{Has, empty_set, Members}
 use Rattle.bits.specs.declared.Span.{Span}
 use Rattle.bits.proofs.Determined.{split_one}
 use Rattle.bits.proofs.Members.{⊎_map, none}
-use Rattle.report.specs.declared.Stage.TheVariants.{Passed}
+use Rattle.std.specs.Prelude.{Ok}
 use Rattle.chart.specs.Bodies.{count_of, from_of, to_of, WellFormed}
 use Rattle.chart.specs.Checks.{check_of}
-use Rattle.chart.specs.Leaving.{leaving_of, RangeOf, Begins}
-use Rattle.chart.specs.Parts.{count_in, to_in, beside, PartOf, Row, Enters, Every, ActsTo}
+use Rattle.chart.specs.Leaving.{leaving_of, RangeOf}
+use Rattle.chart.specs.Parts.{count_in, action_in, to_in, beside, row_byte, ActionsRise, PartOf, Row, RowsOf, Enters, Every, ActsTo}
 use Rattle.chart.specs.Steps.{Via, At, Stands, ActsOf}
 use Rattle.chart.specs.Images.{LeadsTo}
 use Rattle.chart.proofs.Checks.{well_formed}
 use Rattle.chart.proofs.Parts.{leaving_by_index}
-use Rattle.chart.proofs.Order.{at_mid, between, actions_sorted, begins_range}
+use Rattle.chart.proofs.Order.{at_mid, between, actions_sorted}
 
 -- a vertex of a well_formed body's transition is a number of sets
 pub to_low : {body : List ℕ} → WellFormed body → (i : ℕ) → i < count_of body → to_of body i < 128
@@ -150,7 +151,7 @@ module _ {b part : List ℕ} {v : ℕ} {r : Span} (S : PartOf b v part) (R : Ran
   same_place : S.at ≡ r.from
   same_place = split_one S.begins R.begins
 
-  same_count : r.to - r.from ≡ count_in part
+  pub same_count : r.to - r.from ≡ count_in part
   same_count = omega (arith, same_place, split_one S.ends R.ends)
 
   pub beside_long : (bytes : List ℕ) → count_of b ≤ length bytes → length (beside r bytes) ≡ count_in part
@@ -175,12 +176,8 @@ module _ {b part : List ℕ} {v : ℕ} {r : Span} (S : PartOf b v part) (R : Ran
     (λ y. record { label = e ∙ y.label; stands = f ∙ y.stands }),
   ))
 
--- how many transitions a vertex has
-pub many_in : {b part r : List ℕ} {u n : ℕ} → PartOf b u part → Begins b r → u < 128 → n ≡ get_or r (u + 1) 0 - get_or r u 0 → n ≡ count_in part
-many_in {u = u} S R l e = e ∙ same_count S (begins_range R u l)
-
 -- WHAT THE LOOKUP HANDS BACK of a body that passes
-module _ (b : List ℕ) (v : ℕ) {part : List ℕ} (B : Bytes b) (e : check_of b ≡ Passed) (k : part ≡ leaving_of b v) where
+module _ (b : List ℕ) (v : ℕ) {part : List ℕ} (B : Bytes b) (e : check_of b ≡ Ok tt) (k : part ≡ leaving_of b v) where
   pub looked_up : PartOf b v part
   looked_up = subst (PartOf b v) (sym k) (leaving_by_index b B v e)
 
@@ -202,3 +199,85 @@ pub decides_stands : {labels standing : List ℕ} {i label s : ℕ} (l : ℕ) �
 decides_stands {label = label} {s} l e f =
     decides_same ((λ (p, q). record { label = sym e ∙ p; stands = sym f ∙ q }), (λ k. (e ∙ k.label, f ∙ k.stands)))
     (decides_and (decides_eqb label l) (decides_eqb s 1))
+
+-- THE ROWS of four bytes that stand in a list of bytes
+row_at : (xs : List ℕ) (n i k : ℕ) → i < n → k < 4 → row_byte (first_chunks 4 n xs) i k ≡ get_or xs (4 * i + k) 0
+row_at xs zero i k h l = absurd (omega arith)
+row_at xs (suc n) zero k h l = get_or-take 4 xs k 0 l ∙ ap (λ (j : ℕ). get_or xs j 0) {x = k} {y = 4 * 0 + k} (omega arith)
+row_at xs (suc n) (suc i) k h l =
+    row_at (drop 4 xs) n i k (omega arith) l ∙ get_or-drop 4 xs (4 * i + k) 0
+    ∙ ap (λ (j : ℕ). get_or xs j 0) {x = 4 + (4 * i + k)} {y = 4 * suc i + k} (omega arith)
+
+many_rows : (xs : List ℕ) (n : ℕ) → length (first_chunks 4 n xs) ≡ n
+many_rows xs zero = refl
+many_rows xs (suc n) = ap (λ (j : ℕ). suc j) (many_rows (drop 4 xs) n)
+
+-- those of a vertex are the ones of its range among those past the header
+pub rows_of : {b part : List ℕ} {v : ℕ} {r : Span} {all : List (List ℕ)} → PartOf b v part → RangeOf b v r → Bytes b → WellFormed b
+    → (let past = take (length b - 4) (drop 4 b) in all ≡ first_chunks 4 (length past / 4) past)
+    → RowsOf part (take (r.to - r.from) (drop r.from all))
+rows_of {b} {part} {v} {r} {all} S R B W f = record {
+  row = part_row S B W;
+  many = many;
+  same = same;
+  byte = λ i k h g. rw (same i k h g, part_byte S i k (omega (arith, h, many)) g) (B (4 * (S.at + i) + 4 + k));
+}
+  where
+    n : ℕ
+    n = length (drop 4 b) / 4
+
+    t : length (drop 4 b) ≡ length b - 4
+    t = length-drop 4 b
+
+    e : all ≡ first_chunks 4 n (drop 4 b)
+    e = f ∙ ap (λ (xs : List ℕ). first_chunks 4 (length xs / 4) xs) (take_all (length b - 4) (drop 4 b) (omega (arith, t)))
+
+    l : length all ≡ n
+    l = ap (λ (xs : List (List ℕ)). length xs) e ∙ many_rows (drop 4 b) n
+
+    d : length (drop r.from all) ≡ length all - r.from
+    d = length-drop r.from all
+
+    many : length (take (r.to - r.from) (drop r.from all)) ≡ count_in part
+    many = length-take-le (r.to - r.from) (drop r.from all) (omega (arith, d, t, l, W.header.whole, R.ends.within)) ∙ same_count S R
+
+    get_byte : {xs ys : List ℕ} → xs ≡ ys → (k : ℕ) → get_or xs k 0 ≡ get_or ys k 0
+    get_byte q k = ap (λ (xs : List ℕ). get_or xs k 0) q
+
+    same : (i k : ℕ) → i < length (take (r.to - r.from) (drop r.from all)) → k < 4 → row_byte (take (r.to - r.from) (drop r.from all)) i k ≡ get_or part (4 * i + k) 0
+    same i k j g =
+        let h : i < count_in part = omega (arith, j, many) in
+        get_byte (get_or-take (r.to - r.from) (drop r.from all) i [] (omega (arith, h, same_count S R)) ∙ get_or-drop r.from all i []) k
+        ∙ ap (λ (xs : List (List ℕ)). row_byte xs (r.from + i) k) e
+        ∙ row_at (drop 4 b) n (r.from + i) k (omega (arith, h, t, same_count S R, W.header.whole, R.ends.within)) g
+        ∙ get_or-drop 4 b (4 * (r.from + i) + k) 0
+        ∙ ap (λ (j : ℕ). get_or b j 0) {x = 4 + (4 * (r.from + i) + k)} {y = 4 * (S.at + i) + 4 + k} (omega (arith, same_place S R))
+        ∙ sym (part_byte S i k h g)
+
+-- a row is its part's transition
+module _ {part : List ℕ} {rows : List (List ℕ)} (R : RowsOf part rows) {i : ℕ} (h : i < length rows) where
+  pub row_within : i < count_in part
+  row_within = omega (arith, h, R.many)
+
+  pub row_action : row_byte rows i 1 ≡ action_in part i
+  row_action = R.same i 1 h (omega arith)
+
+  pub row_to : row_byte rows i 2 ≡ to_in part i
+  row_to = R.same i 2 h (omega arith)
+
+  pub row_low : row_byte rows i 2 < 128
+  row_low = rw row_to (R.row.low i row_within)
+
+pub rows_rise : {part : List ℕ} {rows : List (List ℕ)} → RowsOf part rows → ActionsRise rows
+rows_rise R i j l h = rw (row_action R {i = i} (omega (arith, l, h)), row_action R h) (R.row.sorted i j l (row_within R h))
+
+-- the rows from row n on
+abbrev pub rows_after : List (List ℕ) → ℕ → List (List ℕ)
+rows_after rows n = take (length rows - n) (drop n rows)
+
+pub after_long : (rows : List (List ℕ)) (n : ℕ) → length (rows_after rows n) ≡ length rows - n
+after_long rows n = ap (λ (xs : List (List ℕ)). length xs) (take_all (length rows - n) (drop n rows) (omega (arith, length-drop n rows))) ∙ length-drop n rows
+
+pub after_byte : (rows : List (List ℕ)) (n i k : ℕ) → row_byte (rows_after rows n) i k ≡ row_byte rows (n + i) k
+after_byte rows n i k = ap (λ (xs : List ℕ). get_or xs k 0)
+    (ap (λ (xs : List (List ℕ)). get_or xs i []) (take_all (length rows - n) (drop n rows) (omega (arith, length-drop n rows))) ∙ get_or-drop n rows i [])

@@ -1,6 +1,6 @@
 -- The targets of a vertex by an action, and the actions that a set offers, gathered vertex by vertex.
-use Prim.Native.Nat.{ℕ, suc, ◌+◌, ◌-◌, ◌*◌, ◌≤◌, ◌<◌}
-use mathlib.Core.Path.{◌≡◌, refl, sym, ap, ◌∙◌, subst}
+use Prim.Native.Nat.{ℕ, suc, ◌+◌, ◌-◌, ◌≤◌, ◌<◌}
+use mathlib.Core.Path.{◌≡◌, refl, sym, ◌∙◌, subst}
 use mathlib.Core.Logic.{◌≢◌, ◌⊎◌, ◌↔◌, ⊎_elim, by_cases}
 use mathlib.Core.Bool.{Bool, true, false, cond}
 use mathlib.Core.List.{List, ◌∷◌}
@@ -15,92 +15,54 @@ use Rattle.theory.proofs.Tests.{decided, decides_same, decides_and, decides_eqb,
 use Rattle.bits.specs.Bits.{list_from}
 use Rattle.bits.specs.declared.sets.Set.{Set}
 use Rattle.bits.specs.Sets.{Has, empty_set, Empty, Members}
-use Rattle.chart.proofs.Rows.{EntersBelow, enters_nothing, enters_more, enters_rest, enters_all, acts_same}
+use Rattle.chart.proofs.Rows.{EntersBelow, enters_nothing, enters_more, enters_rest, enters_all, acts_same, row_within, row_action, row_to, row_low, rows_after, after_long, after_byte}
 use Rattle.bits.proofs.Gains.{blank}
 use Rattle.bits.proofs.Visits.{Visit, FromPast, past_none, past_still, past_new, past_or, past_all}
 use Rattle.chart.specs.Bodies.{count_of, from_of, action_of}
-use Rattle.chart.specs.Parts.{count_in, action_in, PartOf, Row, ActsAt, ActsTo, ActsIn, Lower}
+use Rattle.chart.specs.Parts.{count_in, action_in, row_byte, PartOf, RowsOf, ActionsRise, ActsAt, ActsTo, ActsIn, Lower}
 use Rattle.chart.specs.Images.{ActsFrom, Offers, Marks, MarksMore}
 
 decides_acts : {part : List ℕ} {i b : ℕ} (a : ℕ) → b ≡ action_in part i → Decides (eqb b a) (ActsAt part a i)
 decides_acts {b = b} a e = decides_same ((λ p. record { is = sym e ∙ p }), (λ q. e ∙ q.is)) (decides_eqb b a)
 
--- BY EIGHTS over lower actions: those before the eight transitions that would end at byte e
-pub record Passing (part : List ℕ) (a e : ℕ) : Type 0 where
-  pub row : Row part
-  pub index : ℕ
-  pub place : e ≡ 4 * index + 32
-  pub within : index ≤ count_in part
-  pub below : (i : ℕ) → i < index → action_in part i < a
+-- BY EIGHTS over lower actions: those before the eight rows that would end at row e
+module _ {rows : List (List ℕ)} {a : ℕ} where
+  pub lower_none : Lower rows a 0
+  lower_none = record { within = omega arith; below = λ i l. absurd (omega (arith, l)) }
 
-module _ {part : List ℕ} {a : ℕ} where
-  pub passing_none : Row part → Passing part a 32
-  passing_none R = record { row = R; index = 0; place = refl; within = omega arith; below = λ k l. absurd (omega (arith, l)) }
+  pub lower_more : {e : ℕ} → ActionsRise rows → 8 ≤ e → e ≤ length rows → row_byte rows (e - 1) 1 < a → Lower rows a e
+  lower_more {e} A l h f = record { within = h; below = λ i g. omega (arith, A i (e - 1) (omega (arith, g)) (omega (arith, l, h)), f) }
 
-  pub passing_more : {e x : ℕ} → Passing part a e → e ≤ length part → x ≡ get_or part (e - 3) 0 → x < a → Passing part a (e + 32)
-  passing_more {e} {x} L h f l =
-      let z : e - 3 ≡ 4 * (L.index + 7) + 1 = omega (arith, L.place) in
-      let g : x ≡ action_in part (L.index + 7) = f ∙ ap (λ (j : ℕ). get_or part j 0) z in
-      let w : L.index + 8 ≤ count_in part = omega (arith, h, L.place) in
-      record {
-        row = L.row;
-        index = L.index + 8;
-        place = omega (arith, L.place);
-        within = w;
-        below = λ k q. omega (arith, L.row.sorted k (L.index + 7) (omega (arith, q)) (omega (arith, w)), g, l);
-      }
+-- THE TARGETS BY AN ACTION, of the rows before row i, where those passed have lower ones
+pub acting_none : {part : List ℕ} {rows : List (List ℕ)} {a n : ℕ} {s : Set} → RowsOf part rows → Lower rows a n → s ≡ empty_set
+    → Members (EntersBelow part (ActsAt part a) (n + 0)) s
+acting_none R L e = enters_nothing (λ k l y. omega (arith, L.below k (omega (arith, l)), row_action R {i = k} (omega (arith, l, L.within)), y.is)) e
 
-  pub passing_stops : {e : ℕ} → Passing part a e → Lower part a (e - 32)
-  passing_stops L = record { index = L.index; place = omega (arith, L.place); within = L.within; below = L.below }
+module _ {part : List ℕ} {rows : List (List ℕ)} (R : RowsOf part rows) (a n : ℕ) where
+  -- of the rows from row n on, the one at i
+  at_row : {i : ℕ} → i < length (rows_after rows n) → n + i < length rows
+  at_row {i} h = omega (arith, h, after_long rows n)
 
-  -- before the place where it is not lower, none has the action
-  pub lower_nothing : {p : ℕ} → (L : Lower part a p) → (k : ℕ) → k < L.index → ¬ ActsAt part a k
-  lower_nothing L k q y = omega (arith, L.below k q, y.is)
+  pub acting_low : {i : ℕ} → i < length (rows_after rows n) → row_byte (rows_after rows n) i 2 < 128
+  acting_low {i} h = rw (after_byte rows n i 2) (row_low R (at_row h))
 
--- THE TARGETS BY AN ACTION, of the transitions before byte p
-pub record Gathered (part : List ℕ) (a p : ℕ) (s : Set) : Type 0 where
-  pub row : Row part
-  pub index : ℕ
-  pub place : p ≡ 4 * index
-  pub within : index ≤ count_in part
-  pub members : Members (EntersBelow part (ActsAt part a) index) s
-
-pub gathered_none : {part : List ℕ} {a p : ℕ} {s : Set} → Row part → Lower part a p → s ≡ empty_set → Gathered part a p s
-gathered_none R L e = record {
-  row = R;
-  index = L.index;
-  place = L.place;
-  within = L.within;
-  members = enters_nothing (lower_nothing L) e;
-}
-
-module _ {part : List ℕ} {a p : ℕ} {s : Set} (G : Gathered part a p s) where
-  -- a byte of the transition at p
-  here : {x : ℕ} (k : ℕ) → x ≡ get_or part (p + k) 0 → x ≡ get_or part (4 * G.index + k) 0
-  here k e = e ∙ ap (λ (j : ℕ). get_or part (j + k) 0) G.place
-
-  pub gathered_within : p < length part → G.index < count_in part
-  gathered_within h = omega (arith, h, G.place, G.row.whole)
-
-  pub gathered_low : {t : ℕ} → p < length part → t ≡ get_or part (p + 2) 0 → t < 128
-  gathered_low h e = rw (here 2 e) (G.row.low G.index (gathered_within h))
-
-  pub gathered_more : {x t : ℕ} {r : Set} → p < length part → x ≡ get_or part (p + 1) 0 → t ≡ get_or part (p + 2) 0
-      → ((y : ℕ) → Has r y ↔ (Has s y ⊎ ((eqb x a ≡ true) × (y ≡ t)))) → Gathered part a (p + 4) r
-  gathered_more h e f W = record {
-    row = G.row;
-    index = G.index + 1;
-    place = omega (arith, G.place);
-    within = omega (arith, gathered_within h);
-    members = enters_more (gathered_within h) (sym (here 2 f)) (decides_acts a (here 1 e)) W G.members;
-  }
+  pub acting_more : {i : ℕ} {s r : Set} → i < length (rows_after rows n)
+      → ((y : ℕ) → Has r y ↔ (Has s y ⊎ ((eqb (row_byte (rows_after rows n) i 1) a ≡ true) × (y ≡ row_byte (rows_after rows n) i 2))))
+      → Members (EntersBelow part (ActsAt part a) (n + i)) s → Members (EntersBelow part (ActsAt part a) (n + (i + 1))) r
+  acting_more {i} {s} {r} h W M =
+      let e : n + i + 1 ≡ n + (i + 1) = omega arith in
+      subst (λ (j : ℕ). Members (EntersBelow part (ActsAt part a) j) r) e
+      (enters_more (row_within R (at_row h)) (sym (row_to R (at_row h)) ∙ sym (after_byte rows n i 2))
+      (decides_acts a (after_byte rows n i 1 ∙ row_action R (at_row h))) W M)
 
   -- from one that is higher on, none has the action
-  pub gathered_stops : {x : ℕ} → x ≡ get_or part (p + 1) 0 → a < x → Members (ActsTo part a) s
-  gathered_stops e l = enters_rest (λ k q h y. omega (arith, G.row.sorted G.index k q h, here 1 e, l, y.is)) G.members
+  pub acting_stops : {i : ℕ} {s : Set} → i < length (rows_after rows n) → a < row_byte (rows_after rows n) i 1
+      → Members (EntersBelow part (ActsAt part a) (n + i)) s → Members (ActsTo part a) s
+  acting_stops {i} h l M =
+      enters_rest (λ k q g y. omega (arith, R.row.sorted (n + i) k q g, after_byte rows n i 1, row_action R (at_row h), l, y.is)) M
 
-  pub gathered_all : length part ≤ p → Members (ActsTo part a) s
-  gathered_all h = enters_all (omega (arith, h, G.place, G.row.whole)) G.members
+  pub acting_all : {i : ℕ} {s : Set} → length (rows_after rows n) ≤ i → Members (EntersBelow part (ActsAt part a) (n + i)) s → Members (ActsTo part a) s
+  acting_all h M = enters_all (omega (arith, h, after_long rows n, R.many)) M
 
 -- THE MARKS of a part's actions, before transition i
 abbrev pub ActsBelow : List ℕ → ℕ → ℕ → Type 0

@@ -1,8 +1,7 @@
 -- The refusals 20 and 21 as tests that run.
-use Rattle.std.specs.Prelude.{ℕ, zero, suc, ◌+◌, ◌*◌, List, Bool, true, false, cond, ◌||◌, length, ltb, leb, eqb}
-use Rattle.report.specs.declared.Place.TheVariants.{ChartHeader, Transition}
-use Rattle.report.specs.declared.Stage.{Stage}
-use Rattle.report.specs.declared.Stage.TheVariants.{Passed, Refused}
+use Rattle.std.specs.Prelude.{ℕ, zero, suc, ◌+◌, ◌*◌, List, Bool, true, false, cond, ◌||◌, length, ltb, leb, eqb, Result, Ok, Err}
+use Rattle.report.specs.declared.Refusal.{Refusal}
+use Rattle.report.specs.declared.Refusal.TheVariants.{ChartHeader, Transition}
 use Rattle.chart.specs.Bodies.{vertices_of, start_of, count_of, from_of, action_of, to_of, pad_of, key_of}
 
 infixl 30 ◌and◌
@@ -38,9 +37,9 @@ unfoldable pub ok_at : List ℕ → ℕ → Bool
 ok_at b i = fits_at b i and above_at b i
 
 -- the lowest bad transition among the n from i on
-unfoldable pub first_bad : List ℕ → ℕ → ℕ → Stage
-first_bad b i zero = Passed
-first_bad b i (suc n) = cond (ok_at b i) (first_bad b (suc i) n) (Refused (Transition i))
+unfoldable pub first_bad : List ℕ → ℕ → ℕ → Result Unit Refusal
+first_bad b i zero = Ok tt
+first_bad b i (suc n) = cond (ok_at b i) (first_bad b (suc i) n) (Err (Transition i))
 
-unfoldable pub check_of : List ℕ → Stage
-check_of b = cond (header_ok b) (first_bad b 0 (count_of b)) (Refused ChartHeader)
+unfoldable pub check_of : List ℕ → Result Unit Refusal
+check_of b = cond (header_ok b) (first_bad b 0 (count_of b)) (Err ChartHeader)

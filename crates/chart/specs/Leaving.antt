@@ -1,7 +1,6 @@
 -- The transitions that leave a vertex, and where those of each vertex begin.
-use Rattle.std.specs.Prelude.{ℕ, zero, suc, ◌+◌, ◌*◌, ◌≤◌, ◌<◌, ◌≡◌, List, [], ◌++◌, cond, length, get_or, take, drop, eqb}
-use Rattle.report.specs.declared.Stage.{Stage}
-use Rattle.report.specs.declared.Stage.TheVariants.{Passed, Refused}
+use Rattle.std.specs.Prelude.{ℕ, zero, suc, ◌+◌, ◌*◌, ◌≤◌, ◌<◌, ◌≡◌, List, [], ◌++◌, cond, length, get_or, take, drop, eqb, Result, Ok, Err}
+use Rattle.report.specs.declared.Refusal.{Refusal}
 use Rattle.bits.specs.First.{Split}
 use Rattle.bits.specs.declared.Span.{Span}
 use Rattle.chart.specs.Bodies.{count_of, from_of}
@@ -16,9 +15,9 @@ unfoldable pub leaving_at : List ℕ → ℕ → ℕ → ℕ → List ℕ
 leaving_at b v i zero = []
 leaving_at b v i (suc n) = cond (eqb (from_of b i) v) (bytes_of b i ++ leaving_at b v (suc i) n) (leaving_at b v (suc i) n)
 
-abbrev pub when_passed : {A : Type 0} → Stage → A → A → A
-when_passed Passed a z = a
-when_passed (Refused p) a z = z
+abbrev pub when_passed : {A : Type 0} → Result Unit Refusal → A → A → A
+when_passed (Ok tt) a z = a
+when_passed (Err p) a z = z
 
 -- nothing where 20 or 21 refuses the body
 unfoldable pub leaving_of : List ℕ → ℕ → List ℕ
@@ -39,7 +38,7 @@ OneRange b r = (v : ℕ) × RangeOf b v r
 
 -- a place of a body of n transitions that passes, not past those of v
 pub record NotPast (b : List ℕ) (n v at : ℕ) : Type 0 where
-  pub passed : check_of b ≡ Passed
+  pub passed : check_of b ≡ Ok tt
   pub many : n ≡ count_of b
   pub within : at ≤ n
   pub below : (i : ℕ) → i < at → from_of b i < v

@@ -1,5 +1,5 @@
 -- The transitions of one vertex as a part of the body: four bytes each, as they stand there.
-use Rattle.std.specs.Prelude.{ℕ, ◌+◌, ◌-◌, ◌*◌, ◌/◌, ◌≤◌, ◌<◌, ◌≡◌, List, length, get_or, take, drop}
+use Rattle.std.specs.Prelude.{ℕ, ◌+◌, ◌-◌, ◌*◌, ◌/◌, ◌≤◌, ◌<◌, ◌≡◌, List, [], length, get_or, take, drop}
 use Rattle.bits.specs.First.{Split}
 use Rattle.bits.specs.Sets.{Has}
 use Rattle.bits.specs.declared.Span.{Span}
@@ -35,6 +35,17 @@ pub record Row (part : List ℕ) : Type 0 where
   pub low : (i : ℕ) → i < count_in part → to_in part i < 128
   pub sorted : (i j : ℕ) → i ≤ j → j < count_in part → action_in part i ≤ action_in part j
 
+-- byte k of row i
+abbrev pub row_byte : List (List ℕ) → ℕ → ℕ → ℕ
+row_byte rows i k = get_or (get_or rows i []) k 0
+
+-- the transitions of a part of a body that passes, a row of four bytes each
+pub record RowsOf (part : List ℕ) (rows : List (List ℕ)) : Type 0 where
+  pub row : Row part
+  pub many : length rows ≡ count_in part
+  pub same : (i k : ℕ) → i < length rows → k < 4 → row_byte rows i k ≡ get_or part (4 * i + k) 0
+  pub byte : (i k : ℕ) → i < length rows → k < 4 → row_byte rows i k < 256
+
 -- some transition of a part leads to w, at an index with P
 pub record Enters (part : List ℕ) (P : ℕ → Type 0) (w : ℕ) : Type 0 where
   pub at : ℕ
@@ -65,9 +76,11 @@ pub record EntersSet (part : List ℕ) (t : Set) (a : ℕ) : Type 0 where
   pub acts : ActsTo part a to
   pub member : Has t to
 
--- at byte p of a part a transition begins, or the part ends there, and the actions before it are lower than a
-pub record Lower (part : List ℕ) (a p : ℕ) : Type 0 where
-  pub index : ℕ
-  pub place : p ≡ 4 * index
-  pub within : index ≤ count_in part
-  pub below : (i : ℕ) → i < index → action_in part i < a
+-- the actions of rows do not fall
+abbrev pub ActionsRise : List (List ℕ) → Type 0
+ActionsRise rows = (i j : ℕ) → i ≤ j → j < length rows → row_byte rows i 1 ≤ row_byte rows j 1
+
+-- the actions of the first n rows are lower than a
+pub record Lower (rows : List (List ℕ)) (a n : ℕ) : Type 0 where
+  pub within : n ≤ length rows
+  pub below : (i : ℕ) → i < n → row_byte rows i 1 < a

@@ -3,18 +3,19 @@
 
 pub mod images;
 
-ghost use Rattle.std.specs.Prelude.{◌≡◌, true, ℕ, ◌+◌, ◌-◌, ◌*◌, ◌≤◌, ◌<◌, length, get_or};
-ghost use Rattle.chart.specs.Bodies.{vertices_of, count_of, HeaderFits, SoundTo};
+ghost use Rattle.std.specs.Prelude.{◌≡◌, true, Ok, ℕ, ◌+◌, ◌-◌, ◌*◌, ◌≤◌, ◌<◌, length, get_or};
+ghost use Rattle.chart.specs.Bodies.{vertices_of, start_of, count_of, HeaderFits, SoundTo};
 ghost use Rattle.chart.specs.Checks.{header_ok, check_of};
 ghost use Rattle.chart.specs.Codes.{code_key, code_rises, code_ok, Turn};
 ghost use Rattle.chart.specs.Leaving.{leaving_of, FromBelow, RangeOf, OneRange, NotPast, Begins};
-ghost use Rattle.chart.specs.Parts.{count_in, Row, Enters};
+ghost use Rattle.chart.specs.Parts.{count_in, Row, RowsOf, Enters};
 ghost use Rattle.chart.specs.Steps.{At, Kept};
+ghost use Rattle.bits.specs.Bits.{Bytes};
 ghost use Rattle.bits.specs.First.{Split};
 ghost use Rattle.bits.specs.Sets.{Members};
 
 use bits::{Set, Span, byte, read_u16, read_u32};
-use report::{Place, Stage};
+use report::Refusal;
 
 // T, the number of transitions that the header declares.
 pub fn count(body: &[u8]) -> usize
@@ -80,18 +81,17 @@ fn block_ok(body: &[u8], p: usize, v: u32, first: u32) -> bool
 {
     let mut good = true;
     let mut before = first;
-    let mut i: usize = 0;
-    while i < 32 {
+    for i in 0..32 {
         let code = read_u32(body, p + 4 * i);
         let key = key_of(code);
         good = good & code_rises(code, key, v, before);
         before = key;
-        i += 1;
     }
     good & (before < 65536 * v)
 }
 
-// The end of the blocks of 32 transitions that pass, from the first on.
+// The end of the blocks of 32 transitions that pass, from the first on. A `while`: the blocks are for speed, and the key
+// before a block stands outside it.
 fn sound_until(body: &[u8], v: u32) -> usize
     requires { HeaderFits body.now × (v ≡ vertices_of body.now) }
     ensures { SoundTo body.now result }
@@ -109,39 +109,39 @@ fn sound_until(body: &[u8], v: u32) -> usize
 }
 
 // The check from byte `at` on, where the transitions before it have passed.
-fn check_from(body: &[u8], v: u32, at: usize) -> Stage
+fn check_from(body: &[u8], v: u32, at: usize) -> Result<(), Refusal>
     requires { SoundTo body.now at × (v ≡ vertices_of body.now) }
     ensures { result ≡ check_of body.now }
 {
+    let n = count(body);
     let mut before = key_before(body, at);
-    let mut p = at;
-    while p + 4 <= body.len() {
-        let code = read_u32(body, p);
+    for i in (at - 4) / 4..n {
+        let code = read_u32(body, 4 * i + 4);
         let key = key_of(code);
         if !code_ok(code, key, v, before) {
-            return Stage::Refused(Place::Transition((p - 4) / 4));
+            return Err(Refusal::Transition(i));
         }
         before = key;
-        p += 4;
     }
-    Stage::Passed
+    Ok(())
 }
 
 // What 20 and 21 say of a chart body.
-pub fn check(body: &[u8]) -> Stage
+pub fn check(body: &[u8]) -> Result<(), Refusal>
     ensures { result ≡ check_of body.now }
 {
     if !header_ok(body) {
-        return Stage::Refused(Place::ChartHeader);
+        return Err(Refusal::ChartHeader);
     }
     let v = byte(body, 0) as u32;
     let at = sound_until(body, v);
     check_from(body, v, at)
 }
 
-// The number of transitions whose from is below v, by halving: froms do not fall.
+// The number of transitions whose from is below v, by halving: froms do not fall. A `while`, since what is halved is the
+// range of indices.
 fn lower(body: &[u8], n: usize, v: usize) -> usize
-    requires { (check_of body.now ≡ Stage.Passed) × (n ≡ count_of body.now) }
+    requires { (check_of body.now ≡ Ok tt) × (n ≡ count_of body.now) }
     ensures { Split (FromBelow body.now v) n result }
 {
     let mut lo: usize = 0;
@@ -159,7 +159,7 @@ fn lower(body: &[u8], n: usize, v: usize) -> usize
 
 // Where the transitions of v stand, by their index.
 pub fn range_of(body: &[u8], v: usize) -> Span
-    requires { check_of body.now ≡ Stage.Passed }
+    requires { check_of body.now ≡ Ok tt }
     ensures { RangeOf body.now v result }
 {
     let n = count(body);
@@ -173,7 +173,7 @@ pub fn range_of(body: &[u8], v: usize) -> Span
 
 // The transitions of the vertex whose range this is, as a part of a body that passes.
 pub fn part_in(body: &[u8], range: Span) -> &[u8]
-    requires { (check_of body.now ≡ Stage.Passed) × OneRange body.now range }
+    requires { (check_of body.now ≡ Ok tt) × OneRange body.now range }
     ensures { (v : ℕ) → RangeOf body.now v range → result.now ≡ leaving_of body.now v }
 {
     let a = 4 * range.from + 4;
@@ -183,7 +183,7 @@ pub fn part_in(body: &[u8], range: Span) -> &[u8]
 
 // The transitions of a body that passes which leave v.
 fn leaving_part(body: &[u8], v: usize) -> &[u8]
-    requires { check_of body.now ≡ Stage.Passed }
+    requires { check_of body.now ≡ Ok tt }
     ensures { result.now ≡ leaving_of body.now v }
 {
     part_in(body, range_of(body, v))
@@ -195,12 +195,13 @@ pub fn leaving(body: &[u8], vertex: usize) -> &[u8]
     ensures { result.now ≡ leaving_of body.now vertex }
 {
     match check(body) {
-        Stage::Passed => leaving_part(body, vertex),
-        Stage::Refused(_) => &body[..0],
+        Ok(()) => leaving_part(body, vertex),
+        Err(_) => &body[..0],
     }
 }
 
-// From a place that is not past the transitions of v on to another, by eights: froms do not fall.
+// From a place that is not past the transitions of v on to another, by eights: froms do not fall. The eights are for
+// speed: one look passes eight transitions. Here and in `past` n is the number of transitions, read once for all vertices.
 fn skip(body: &[u8], n: usize, v: usize, at: usize) -> usize
     requires { NotPast body.now n v at }
     ensures { NotPast body.now n v result }
@@ -220,80 +221,111 @@ fn past(body: &[u8], n: usize, v: usize, at: usize) -> usize
     requires { NotPast body.now n v at }
     ensures { Split (FromBelow body.now v) n result }
 {
-    let mut i = skip(body, n, v, at);
-    while i < n {
+    for i in skip(body, n, v, at)..n {
         if byte(body, 4 * i + 4) >= v {
             return i;
         }
-        i += 1;
     }
-    i
+    n
 }
 
 // For each v to 128, the number of transitions whose from is below v: those of a vertex u stand from entry u up to
-// entry u + 1.
-pub fn begins(body: &[u8]) -> [usize; 129]
-    requires { check_of body.now ≡ Stage.Passed }
-    ensures { Begins body.now result }
+// entry u + 1. The table is lent, since one that is handed back would be copied, at 136 instructions.
+pub fn fill_begins(body: &[u8], begins: &mut [usize; 129])
+    requires { check_of body.now ≡ Ok tt }
+    ensures { Begins body.now begins.new }
 {
     let n = count(body);
-    let vertices = byte(body, 0);
     // nothing leaves a vertex from V on
-    let mut begins = [n; 129];
+    begins.fill(n);
     let mut at: usize = 0;
-    let mut v: usize = 0;
-    while v < vertices {
+    for v in 0..byte(body, 0) {
         at = past(body, n, v, at);
         begins[v] = at;
-        v += 1;
     }
-    begins
 }
 
-// The transitions of u as a part of the body, by where those of each vertex begin.
-pub fn part_of<'a>(body: &'a [u8], begins: &[usize; 129], u: usize) -> &'a [u8]
-    requires { (check_of body.now ≡ Stage.Passed) × Begins body.now begins.now × (u < 128) }
-    ensures { result.now ≡ leaving_of body.now u }
-{
-    let range = Span {
-        from: begins[u],
-        to: begins[u + 1],
-    };
-    part_in(body, range)
+// A chart body that 20 and 21 let pass, and where the transitions of each vertex begin.
+#[derive(Clone, Copy)]
+pub struct Chart<'a> {
+    pub body: &'a [u8],
+    pub begins: &'a [usize; 129],
+    pub ghost bytes: { Bytes body.now },
+    pub ghost passed: { check_of body.now ≡ Ok tt },
+    pub ghost begun: { Begins body.now begins.now },
 }
 
-// How many transitions leave u, by where those of each vertex begin.
-fn many_of(begins: &[usize; 129], u: usize) -> usize
-    requires { (length begins.now ≡ 129) × (u < 128) × (get_or begins.now u 0 ≤ get_or begins.now (u + 1) 0) }
-    ensures { result ≡ get_or begins.now (u + 1) 0 - get_or begins.now u 0 }
-{
-    begins[u + 1] - begins[u]
-}
-
-// What the transitions of a part lead to whose `keep` byte is 1.
-fn kept_in(part: &[u8], keep: &[u8]) -> Set
-    requires { Row part.now × (length keep.now ≡ count_in part.now) }
-    ensures { Members (Enters part.now (At keep.now 1)) result }
-{
-    let n = keep.len();
-    let mut set = Set::empty();
-    let mut i: usize = 0;
-    while i < n {
-        set = set.with_if(byte(part, 4 * i + 2), byte(keep, i) == 1);
-        i += 1;
+impl<'a> Chart<'a> {
+    pub fn new(body: &'a [u8], begins: &'a [usize; 129]) -> Chart<'a>
+        requires { (check_of body.now ≡ Ok tt) × Begins body.now begins.now }
+        ensures { result.body.now ≡ body.now }
+    {
+        Chart { body, begins }
     }
-    set
-}
 
-// What the transitions of u lead to whose `keep` byte is 1.
-pub fn kept_row(body: &[u8], keep: &[u8], begins: &[usize; 129], u: usize) -> Set
-    requires { (check_of body.now ≡ Stage.Passed)
-        × (count_of body.now ≤ length keep.now)
-        × Begins body.now begins.now
-        × (u < 128) }
-    ensures { Members (Kept body.now keep.now u) result }
-{
-    let from = begins[u];
-    let to = begins[u + 1];
-    kept_in(part_of(body, begins, u), &keep[from..to])
+    // V, the number of vertices.
+    pub fn vertices(&self) -> usize
+        ensures { (result ≡ vertices_of self.now.body.now) × (2 ≤ result) × (result ≤ 128) }
+    {
+        byte(self.body, 0)
+    }
+
+    // The vertex where events begin.
+    pub fn start(&self) -> usize
+        ensures { (result ≡ start_of self.now.body.now) × (1 ≤ result) × (result < vertices_of self.now.body.now) }
+    {
+        byte(self.body, 1)
+    }
+
+    // T, the number of transitions.
+    pub fn count(&self) -> usize
+        ensures { (result ≡ count_of self.now.body.now) × (result ≤ 8192) }
+    {
+        count(self.body)
+    }
+
+    // Where the transitions of u stand, by their index.
+    pub fn range(&self, u: usize) -> Span
+        requires { u < 128 }
+        ensures stands { RangeOf self.now.body.now u result }
+        ensures within { (result.from ≤ result.to) × (result.to ≤ count_of self.now.body.now) }
+    {
+        Span {
+            from: self.begins[u],
+            to: self.begins[u + 1],
+        }
+    }
+
+    // The transitions of u as a part of the body.
+    pub fn part(&self, u: usize) -> &'a [u8]
+        requires { u < 128 }
+        ensures { (result.now ≡ leaving_of self.now.body.now u) × Row result.now }
+    {
+        part_in(self.body, self.range(u))
+    }
+
+    // The transitions of u, four bytes each.
+    pub fn rows(&self, u: usize) -> &'a [[u8; 4]]
+        requires { u < 128 }
+        ensures { RowsOf (leaving_of self.now.body.now u) result.now }
+    {
+        let range = self.range(u);
+        let (all, _) = self.body[4..].as_chunks::<4>();
+        &all[range.from..range.to]
+    }
+
+    // What the transitions of u lead to whose `keep` byte is 1.
+    pub fn kept(&self, keep: &[u8], u: usize) -> Set
+        requires { (count_of self.now.body.now ≤ length keep.now) × (u < 128) }
+        ensures { Members (Kept self.now.body.now keep.now u) result }
+    {
+        let range = self.range(u);
+        let beside = &keep[range.from..range.to];
+        let mut set = Set::empty();
+        // by index: a `zip` tests both ends, 3 in 100 more instructions
+        for (i, row) in self.rows(u).iter().enumerate() {
+            set = set.with_if(row[2] as usize, beside[i] == 1);
+        }
+        set
+    }
 }

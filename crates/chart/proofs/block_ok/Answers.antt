@@ -10,7 +10,7 @@ use Rattle.chart.proofs.block_ok.Goals as goal
 pub loop-i-init : goal.loop-i-init
 loop-i-init c =
     let s : c.args.p + 4 * 0 ≡ c.args.p = omega arith in
-    (omega arith, λ _ _. rw s c.requires.0)
+    λ _ _. rw s c.requires.0
 
 pub overflow_add-p : goal.overflow_add-p
 overflow_add-p c =
@@ -25,16 +25,14 @@ unfolding ◌and◌
 loop-i-preserved c =
     let l = c.loop-i in
     let p = c.args.p in
-    let s : p + 4 * (l.i + 1) ≡ p + 4 * l.i + 4 = omega arith in (
-      omega arith,
-      λ h b.
-          let e = sym c.code_rises-good.ensures ∙ right l.good c.code_rises-good.result h in
-          let t = l.invariant.1 (left l.good c.code_rises-good.result h) (omega (arith, b, rises _ _ _ _ e)) in
-          rw s
-          (turn_rises (λ j. omega (arith, c.type_inv.body j)) t
-          (omega (arith, c.requires.2)) c.requires.1 c.read_u32-code.ensures.0
-          c.key_of-key.ensures e b),
-    )
+    let s : p + 4 * (l.i + 1) ≡ p + 4 * l.i + 4 = omega arith in
+    λ h b.
+    let e = sym c.code_rises-good.ensures ∙ right l.good c.code_rises-good.result h in
+    let t = l.invariant (left l.good c.code_rises-good.result h) (omega (arith, b, rises _ _ _ _ e)) in
+    rw s
+    (turn_rises (λ j. omega (arith, c.type_inv.body j)) t
+    (omega (arith, c.requires.2)) c.requires.1 c.read_u32-code.ensures.0
+    c.key_of-key.ensures e b)
 
 pub overflow_mul-result : goal.overflow_mul-result
 overflow_mul-result c =
@@ -45,6 +43,6 @@ pub returns : goal.returns
 unfolding ◌and◌
 returns c e =
     let l = c.loop-i in
-    let s : l.i ≡ 32 = omega (arith, l.invariant.0) in
+    let s : l.i ≡ 32 = omega (arith, l.auto.i-end, c.loop-i-test.false) in
     let below = ltb-true l.before (65536 * c.args.v) (right l.good _ e) in
-    (rw s at (l.invariant.1 (left l.good _ e) below)).sound
+    (rw s at (l.invariant (left l.good _ e) below)).sound

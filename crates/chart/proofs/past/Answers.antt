@@ -1,3 +1,4 @@
+use native.Mathlib.Nat.{le_refl}
 use native.Mathlib.Omega.{arith}
 use borrow.Author.Count.{below_more}
 use Rattle.chart.proofs.Order.{first_above}
@@ -26,4 +27,5 @@ loop-i-preserved c =
 pub returns : goal.returns
 returns c =
     let i = c.loop-i.invariant in
-    first_above _ i.1 i.0 _ _ _ i.2 i.3 i.4 (λ h. omega arith)
+    first_above _ i.1 i.0 _ _ _ i.2 (le_refl _) (λ k h. i.4 k (omega (arith, h, c.loop-i-test.false)))
+    (λ h. absurd (omega (arith, h)))

@@ -6,32 +6,23 @@ use lib.ListN.{get_or}
 use Rattle.chart.proofs.Targets.{count_more, count_end, flag_low}
 use Rattle.chart.proofs.images.count_marks.Goals as goal
 
-pub loop-i-init : goal.loop-i-init
-loop-i-init c = (c.requires, omega arith, omega arith, omega arith)
-
-pub bounds-marks-i : goal.bounds-marks-i
-bounds-marks-i c = c.loop-i-test.true
-
-pub loop-i-preserved : goal.loop-i-preserved
-loop-i-preserved c =
-    let l = c.loop-i in
+pub loop-mark-preserved : goal.loop-mark-preserved
+loop-mark-preserved c =
+    let l = c.loop-mark in
     let i = l.invariant in
     let m = c.args.marks.now in
-    let t = c.loop-i-test.true in
-    let b = eqb (get_or m l.i 0) 1 in
+    let b = eqb (get_or m l.mark-index 0) 1 in
     let e = c.one_more_if-total.ensures in (
-      i.0,
-      omega (arith, i.1, e, flag_low b),
-      omega (arith, t),
-      omega (arith, i.3, e, count_more (λ (a : ℕ). eqb (get_or m a 0) 1) {n = 256} {i = l.i} {b = b} t refl),
+      omega (arith, i.0, e, flag_low b),
+      omega (arith, i.1, e, count_more (λ (a : ℕ). eqb (get_or m a 0) 1) {n = 256} {i = l.mark-index} {b = b} (omega (arith, c.loop-mark-test.true, c.requires)) refl),
     )
 
 pub returns : goal.returns
 returns c =
-    let l = c.loop-i in
+    let l = c.loop-mark in
     omega (
       arith,
-      l.invariant.3,
+      l.invariant.1,
       count_end (λ (a : ℕ). eqb (get_or c.args.marks.now a 0) 1) {n = 256}
-          {i = l.i} c.loop-i-test.false,
+          {i = l.mark-index} (omega (arith, c.loop-mark-test.false, c.requires)),
     )
