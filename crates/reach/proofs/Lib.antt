@@ -1,3 +1,4 @@
 -- The laws.
+pub mod Knowing
 pub mod Searches
 pub mod Settling

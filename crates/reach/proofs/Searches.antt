@@ -1,13 +1,11 @@
 -- The search along a table of successors.
 use mathlib.Core.Path.{◌≡◌, refl, sym, ◌∙◌, ap, subst}
 use mathlib.Core.Logic.{◌≢◌, ◌⊎◌, inl, inr, ⊎_elim, ◌↔◌, by_cases}
-use mathlib.Core.Bool.{Bool, true, false}
 use mathlib.Core.List.{List}
 use Prim.Native.Nat.{ℕ, ◌+◌, ◌-◌, ◌*◌, ◌≤◌, ◌<◌}
 use native.Mathlib.Omega.{arith}
 use native.Mathlib.Decide.{ℕ_discrete, dec_lt}
-use borrow.Author.Count.{below_more}
-use lib.ListN.{length, replicate, length-replicate}
+use lib.ListN.{length}
 use Rattle.bits.specs.declared.sets.Set.{Set}
 use Rattle.bits.specs.First.{First}
 use Rattle.bits.specs.Sets.{Has, empty_set, Empty, Members, Union, Difference, Last, SetFits, size_of}
@@ -21,7 +19,8 @@ use Rattle.theory.proofs.Search.{look_below}
 use Rattle.theory.proofs.Paths.{star_then, star_snoc, star_map, plus_of, plus_snoc, plus_star, plus_then, star_cases}
 use Rattle.reach.specs.declared.Search.{Search}
 use Rattle.reach.specs.Searches.{Leads, LedTo, FromSet, Closed, ClosedBut, InOrFrom, Known, Jumps, Visited}
-use Rattle.reach.specs.Searches.{OnCycle, ReachedIn, TurnReaches, turn_of, begin_of, end_of, Searched, Cycles}
+use Rattle.reach.specs.Searches.{OnCycle, ReachedIn, TurnReaches, Cycles}
+use Rattle.std.specs.Prelude.{Option, Some, None}
 
 -- a set that is not empty has a member
 pub some_member : (s : Set) → ¬ Empty s → (w : ℕ) × Has s w
@@ -30,10 +29,6 @@ some_member s n = elim (look_below (has? s) 128) [ inl (w, l, h) ↦ (w, h) | in
 -- where nothing of a set is left without another, it is part of that
 pub all_in : {s t d : Set} → Difference s t d → Empty d → (w : ℕ) → Has s w → Has t w
 all_in {t = t} D E w h = elim (has? t w) [ yes k ↦ k | no k ↦ absurd (E w ((D w).1 (h, k))) ]
-
--- w is where the search stops: nothing changes
-pub visit_stop : (a : List ℕ) (stop w : ℕ) (s : Search) → w ≡ stop → Visited a stop w s s
-visit_stop a stop w s e = record { grows = λ y l. l; sound = λ y m. inl m; passed = λ x y n o. inl (n, λ f. o.0 (f ∙ e)); more = λ y l. l }
 
 -- the successors of w are seen
 pub visit_next : (a : List ℕ) (stop w : ℕ) (s : Search) (r : Set) → w < 128 → w ≢ stop → Union s.seen (row_of a w) r → Visited a stop w s (record { seen = r; past = s.past })
@@ -120,18 +115,6 @@ from_closed C U M = record {
   exactly = λ w l. (
     λ h. let (u, k, p) = (M.exactly w l).0 h in ⊎_elim (leaves C p) (λ g. inr (u, g, p)) ((U u).0 k),
     ⊎_elim (λ k. (M.exactly w l).1 (w, (U w).1 (inl k), here)) (λ (u, k, p). (M.exactly w l).1 (u, (U u).1 (inr k), p)),
-  );
-}
-
--- the empty set is closed, and adds nothing
-pub none_closed : (E : Edges) {s other : Set} → s ≡ empty_set → ClosedBut E s other
-none_closed E e x y h = absurd (none x (rw e at h))
-
-pub from_alone : {E : Edges} {s set r : Set} → s ≡ empty_set → Members (InOrFrom E s set) r → Members (FromSet E set) r
-from_alone e M = record {
-  exactly = λ w l. (
-    λ h. ⊎_elim (λ k. absurd (none w (rw e at k))) (λ f. f) ((M.exactly w l).0 h),
-    λ f. (M.exactly w l).1 (inr f),
   );
 }
 
@@ -225,9 +208,6 @@ pub record Joining (after : List ℕ) (set all left : Set) : Type 0 where
   pub only : (y : ℕ) → Has all y → Has set y ⊎ ((x : ℕ) × Has set x × HasRow after x y)
   pub gone : (x : ℕ) → Has set x → ¬ Has left x
       → (z : ℕ) × Has set z × ((z ≡ x) ⊎ HasRow after z x) × ((y : ℕ) → HasRow after z y → Has all y)
-
-pub join_none : {after : List ℕ} {set : Set} → Joining after set set set
-join_none = record { some = λ x h. h; given = λ y h. h; only = λ y h. inl h; gone = λ x h n. absurd (n h) }
 
 -- a round takes some of the members that are left, and has what the table leads to from these
 pub record Taking (after : List ℕ) (left taken extra : Set) : Type 0 where
@@ -378,168 +358,54 @@ module _ (a : List ℕ) (w : ℕ) (r : Set) (T : TurnReaches a w r) (off : ¬ Ha
           let k = K.exactly x y g.0 g.1 i in
           ((λ z. k.0 (rw o at z)), (λ p. rw o (k.1 p)))
 
--- the turns of the first n vertices are theirs, and each has one
-pub turn_low : (i n : ℕ) (down : Bool) → i < n → turn_of i n down < n
-turn_low i n true h = omega (arith, h)
-turn_low i n false h = h
-
-pub turned : (k n : ℕ) (down : Bool) → k < n → (j : ℕ) × (j < n) × (turn_of j n down ≡ k)
-turned k n true h = (n - 1 - k, omega (arith, h), omega (arith, h))
-turned k n false h = (k, h, refl)
-
--- the vertices of the first turns are below n
-pub end_low : (i n : ℕ) (down : Bool) → i ≤ n → end_of i n down ≤ n
-end_low i n true h = omega arith
-end_low i n false h = h
-
--- nothing is known before the first turn, then the vertex of the turn too, and at the end all
-pub turns_none : (a after : List ℕ) (n : ℕ) (down : Bool) → Known a after (begin_of 0 n down) (end_of 0 n down)
-turns_none a after n true = record { exactly = λ x y h l. absurd (omega (arith, h, l)) }
-turns_none a after n false = record { exactly = λ x y h l. absurd (omega (arith, l)) }
-
-pub turn_more : (i n w : ℕ) (down : Bool) → i < n → w ≡ turn_of i n down → (x : ℕ) → x ≢ w → begin_of (i + 1) n down ≤ x → x < end_of (i + 1) n down → (begin_of i n down ≤ x) × (x < end_of i n down)
-turn_more i n w true h e x d p q = (omega (arith, h, e, d, p, q), q)
-turn_more i n w false h e x d p q = (omega arith, omega (arith, e, d, q))
-
--- a set of vertices whose turn is past
-pub past_none : {s : Set} (i n : ℕ) (down : Bool) → s ≡ empty_set → (x : ℕ) → Has s x → (begin_of i n down ≤ x) × (x < end_of i n down)
-past_none i n down e x h = absurd (none x (rw e at h))
-
-pub past_more : {s r : Set} {w : ℕ} (i n : ℕ) (down : Bool) → i < n → w ≡ turn_of i n down
-    → ((x : ℕ) → Has s x → (begin_of i n down ≤ x) × (x < end_of i n down)) → ((x : ℕ) → Has r x ↔ (Has s x ⊎ (x ≡ w)))
-    → (x : ℕ) → Has r x → (begin_of (i + 1) n down ≤ x) × (x < end_of (i + 1) n down)
-past_more i n true h e P W x g = ⊎_elim (λ k. let (p, q) = P x k in (omega (arith, p), q))
-    (λ k. (omega (arith, k, e, h), omega (arith, k, e, h))) ((W x).0 g)
-past_more i n false h e P W x g = ⊎_elim (λ k. let (p, q) = P x k in (omega arith, omega (arith, q)))
-    (λ k. (omega arith, omega (arith, k, e))) ((W x).0 g)
-
-pub turns_all : {a after : List ℕ} {i n : ℕ} (down : Bool) → n ≤ i → i ≤ n → Known a after (begin_of i n down) (end_of i n down) → Known a after 0 n
-turns_all true h l K = record { exactly = λ x y p q. K.exactly x y (omega (arith, h, l)) q }
-turns_all false h l K = record { exactly = λ x y p q. K.exactly x y p (omega (arith, q, h)) }
-
--- what the loop over the turns keeps
-pub record Turning (a : List ℕ) (n : ℕ) (down : Bool) (before : List ℕ) (i : ℕ) (after : List ℕ) : Type 0 where
+-- what the turns have found, from below or from above: what the vertices from b up to t reach, whose turn is past
+pub record Turned (a : List ℕ) (n : ℕ) (before : List ℕ) (b t : ℕ) (past : Set) (after : List ℕ) : Type 0 where
   pub long : length after ≡ length before
-  pub known : Known a after (begin_of i n down) (end_of i n down)
-  pub acyclic : (j : ℕ) → j < i → ¬ OnCycle a (turn_of j n down)
+  pub known : Known a after b t
+  pub acyclic : (x : ℕ) → b ≤ x → x < t → ¬ OnCycle a x
+  pub within : (x : ℕ) → Has past x → (b ≤ x) × (x < t)
   pub others : (x : ℕ) → n ≤ x → row_of after x ≡ row_of before x
 
-pub turning_none : (a : List ℕ) (n : ℕ) (down : Bool) (before : List ℕ) → Turning a n down before 0 before
-turning_none a n down before = record
-    { long = refl; known = turns_none a before n down; acyclic = λ j h. absurd (omega (arith, h)); others = λ x h. refl }
-
-module _ {a : List ℕ} {n : ℕ} {down : Bool} {before after : List ℕ} {i : ℕ} (T : Turning a n down before i after) (h : i < n)
-    (room : 2 * n ≤ length before) (w : ℕ) (e : w ≡ turn_of i n down)
-    {r : Set} (C : TurnReaches a w r) where
-  low : w < n
-  low = rw e (turn_low i n down h)
-
-  pub turning_found : Has r w → Searched a n down before i after
-  turning_found g = record {
-    long = T.long;
-    first = record {
-      from = omega arith;
-      within = omega (arith, h);
-      holds = λ l. subst (OnCycle a) e (C.cyclic g);
-      before = λ k z l. T.acyclic k l;
-    };
-    known = λ f. absurd (omega (arith, f, h));
-    others = T.others;
-  }
-
-  pub turning_more : ¬ Has r w → Turning a n down before (i + 1) (put_row after w r)
-  turning_more off = record {
-    long = put_long after w r ∙ T.long;
-    known = known_more a w r C off after _ _ _ _ (omega (arith, low, room, T.long)) T.known
-        (turn_more i n w down h e);
-    acyclic = below_more (λ (j : ℕ). ¬ OnCycle a (turn_of j n down)) i T.acyclic
-        (subst (λ (x : ℕ). ¬ OnCycle a x) e (λ p. off ((C.exactly off w).1 p)));
-    others = λ x l. put_other after w r x (λ f. omega (arith, f, l, low)) ∙ T.others x l;
-  }
-
-pub turning_all : {a : List ℕ} {n : ℕ} {down : Bool} {before after : List ℕ} {i : ℕ} → Turning a n down before i after → n ≤ i → i ≤ n → Searched a n down before i after
-turning_all {down = down} T h l = record {
-  long = T.long;
-  first = record { from = omega arith; within = l; holds = λ f. absurd (omega (arith, f, h)); before = λ k z f. T.acyclic k f };
-  known = λ e. turns_all down h l T.known;
-  others = T.others;
+-- one more vertex, w, has had its turn: it is the next below or above the others
+pub turned_more : {a before after : List ℕ} {n b t c u w : ℕ} {s r past : Set} → Turned a n before b t s after → w < n → 2 * n ≤ length before
+    → TurnReaches a w r → ¬ Has r w → ((x : ℕ) → Has past x ↔ (Has s x ⊎ (x ≡ w)))
+    → ((x : ℕ) → ((b ≤ x) × (x < t)) ⊎ (x ≡ w) → (c ≤ x) × (x < u)) → ((x : ℕ) → c ≤ x → x < u → x ≢ w → (b ≤ x) × (x < t))
+    → Turned a n before c u past (put_row after w r)
+turned_more {a} {after = after} {n} {w = w} {r = r} T l room C off W G F = record {
+  long = put_long after w r ∙ T.long;
+  known = known_more a w r C off after _ _ _ _ (omega (arith, l, room, T.long)) T.known (λ x d p q. F x p q d);
+  acyclic = λ x p q. elim (ℕ_discrete x w) [
+    | yes e ↦ subst (λ (z : ℕ). ¬ OnCycle a z) (sym e) (λ o. off ((C.exactly off w).1 o))
+    | no d ↦ let (h, k) = F x p q d in T.acyclic x h k
+  ];
+  within = λ x h. G x (⊎_elim (λ k. inl (T.within x k)) inr ((W x).0 h));
+  others = λ x h. put_other after w r x (λ f. omega (arith, f, h, l)) ∙ T.others x h;
 }
-
--- where no turn from above finds a cycle there is none
-pub none_above : {a before after : List ℕ} {n r : ℕ} → Searched a n true before r after → r ≡ n → First (OnCycle a) 0 n n
-none_above {a} {n = n} {r} S e = record {
-  from = omega arith;
-  within = omega arith;
-  holds = λ h. absurd (omega (arith, h));
-  before = λ k z h p. let j = turned k n true h in S.first.before j.0 (omega arith) (omega (arith, j.1, e)) (subst (OnCycle a) (sym j.2) p);
-}
-
-pub from_above : {a before after : List ℕ} {n r : ℕ} → Searched a n true before r after → r ≡ n → Cycles a n before n after
-from_above S e = record { long = S.long; first = none_above S e; known = λ f. S.known e; others = λ f. S.others; cleared = λ h. absurd (omega (arith, h)) }
-
--- from below the first turn with a cycle is that of the lowest vertex on one
-pub from_below : {a before after : List ℕ} {n r : ℕ} → Searched a n false before r after → n ≤ r → Cycles a n before r after
-from_below S l = record { long = S.long; first = S.first; known = S.known; others = λ f. S.others; cleared = λ h. absurd (omega (arith, h, l)) }
-
-pub from_below_cleared : {a before between after : List ℕ} {n r : ℕ} → Searched a n false before r between → r < n
-    → after ≡ replicate (length between) 0 → Cycles a n before r after
-from_below_cleared {before = before} {between} S l e = record {
-  long = ap (λ (t : List ℕ). length t) e ∙ length-replicate {A = ℕ} (length between) 0 ∙ S.long;
-  first = S.first;
-  known = λ f. absurd (omega (arith, f, l));
-  others = λ f. absurd (omega (arith, f, l));
-  cleared = λ h. e ∙ ap (λ (m : ℕ). replicate {A = ℕ} m 0) S.long;
-}
-
--- where a turn from above has found a cycle, what it left in the table is cleared
-pub from_below_again : {a before between after : List ℕ} {n r t : ℕ} → Searched a n true before t between → t ≢ n → Cycles a n between r after → Cycles a n before r after
-from_below_again {a} {before} {between} {n = n} {r} {t} S m C = record {
-  long = C.long ∙ S.long;
-  first = C.first;
-  known = C.known;
-  others = λ e. absurd (found e);
-  cleared = λ h. rw S.long at
-      (C.cleared h);
-}
-  where
-    inside : t < n
-    inside = omega (arith, S.first.within, m)
-
-    found : ¬ (r ≡ n)
-    found e = let l = turn_low t n true inside in C.first.before (turn_of t n true) (omega arith) (omega (arith, l, e)) (S.first.holds inside)
 
 below_or : (v n : ℕ) → (v < n) ⊎ (n ≤ v)
 below_or v n = elim (dec_lt v n) [ yes h ↦ inl h | no h ↦ inr (omega (arith, h)) ]
 
 -- ONE ANSWER of `cycle`
-pub cycles_one : {a before : List ℕ} {n r t : ℕ} {x y : List ℕ} → n ≤ 128 → WholeSets before → Words x → Words y → Cycles a n before r x
-    → Cycles a n before t y
-    → (r ≡ t) × (x ≡ y)
-cycles_one {a} {before} {n} {r} {t} {x} {y} small
-    (m, even) W Z C D = (
-      same,
-      elim
-          (ℕ_discrete r n) [ yes e ↦ whole e | no e ↦ C.cleared (inside e) ∙ sym (D.cleared (omega (arith, inside e, same))) ],
-    )
+pub cycles_one : {a before : List ℕ} {n : ℕ} {r t : Option ℕ} {x y : List ℕ} → n ≤ 128 → WholeSets before → Words x → Words y
+    → Cycles a n before r x → Cycles a n before t y → (r ≡ t) × (x ≡ y)
+cycles_one {a} {before} {n} {x = x} {y} small (m, even) W Z C D = go _ _ C D
   where
-    same : r ≡ t
-    same = first_one C.first D.first
-
-    inside : ¬ (r ≡ n) → r < n
-    inside e = omega (arith, C.first.within, e)
-
-    whole : r ≡ n → x ≡ y
-    whole e = same_table x y m W Z (C.long ∙ even) (D.long ∙ even) each
+    go : (r t : Option ℕ) → Cycles a n before r x → Cycles a n before t y → (r ≡ t) × (x ≡ y)
+    go None None E F = (refl, same_table x y m W Z (E.long ∙ even) (F.long ∙ even) each)
       where
-        f : t ≡ n
-        f = sym same ∙ e
-
         each : (v : ℕ) → v < m → ((w : ℕ) → HasRow x v w ↔ HasRow y v w)
         each v h w = elim (below_or v n) [ inl l ↦ known l | inr l ↦ other l ]
           where
             known : v < n → HasRow x v w ↔ HasRow y v w
-            known l = let p = (C.known e).exactly v w (omega arith) l (omega (arith, l, small)) in let q = (D.known f).exactly v w
-                (omega arith) l (omega (arith, l, small)) in ((λ g. q.1 (p.0 g)), (λ g. p.1 (q.0 g)))
+            known l =
+                let p = (E.known refl).exactly v w (omega arith) l (omega (arith, l, small)) in
+                let q = (F.known refl).exactly v w (omega arith) l (omega (arith, l, small)) in
+                ((λ g. q.1 (p.0 g)), (λ g. p.1 (q.0 g)))
 
             other : n ≤ v → HasRow x v w ↔ HasRow y v w
-            other l = let q : row_of x v ≡ row_of y v = C.others e v l ∙ sym (D.others f v l) in ((λ g. rw q at g), (λ g. rw q g))
+            other l =
+                let q : row_of x v ≡ row_of y v = E.others refl v l ∙ sym (F.others refl v l) in
+                ((λ g. rw q at g), (λ g. rw q g))
+    go None (Some w) E F = absurd (omega (arith, first_one E.first F.first, F.below))
+    go (Some v) None E F = absurd (omega (arith, first_one E.first F.first, E.below))
+    go (Some v) (Some w) E F = (ap (λ (z : ℕ). Some z) (first_one E.first F.first), E.cleared refl ∙ sym (F.cleared refl))

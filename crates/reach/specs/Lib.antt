@@ -1,3 +1,2 @@
--- The definitions: what a search along a table of successors reaches, and cycles. The tests that run: turn_of, begin_of
--- and end_of.
+-- The definitions: what a search along a table of successors reaches, and cycles.
 pub mod Searches

@@ -1,5 +1,6 @@
 -- Reachability along sets of successors: set x of a table has what x leads to.
-use Rattle.std.specs.Prelude.{ℕ, ◌-◌, ◌≤◌, ◌<◌, ◌≡◌, ◌≢◌, ◌⊎◌, ◌↔◌, Bool, cond, List, length, replicate}
+use Rattle.std.specs.Prelude.{ℕ, ◌≤◌, ◌<◌, ◌≡◌, ◌≢◌, ◌⊎◌, ◌↔◌, Bool, true, List, length, replicate}
+use Rattle.std.specs.Prelude.{Option, IfSome, IsSome, IsNone, unwrap_or}
 use Rattle.theory.specs.Paths.{Edges, Star, Plus, Avoid}
 use Rattle.bits.specs.First.{First}
 use Rattle.bits.specs.declared.sets.Set.{Set}
@@ -78,22 +79,12 @@ pub record TurnReaches (a : List ℕ) (w : ℕ) (r : Set) : Type 0 where
   pub cyclic : Has r w → OnCycle a w
   pub exactly : ¬ Has r w → (y : ℕ) → Has r y ↔ Plus (Leads a) w y
 
--- the vertex of turn i, from above or from below
-abbrev pub turn_of : ℕ → ℕ → Bool → ℕ
-turn_of i n down = cond down (n - 1 - i) i
-
--- where the vertices of the first i turns begin and where they end
-abbrev pub begin_of : ℕ → ℕ → Bool → ℕ
-begin_of i n down = cond down (n - i) 0
-
-abbrev pub end_of : ℕ → ℕ → Bool → ℕ
-end_of i n down = cond down n i
-
--- r is the first turn whose vertex is on a cycle, or n: then set x of after has what x reaches, for x below n
-pub record Searched (a : List ℕ) (n : ℕ) (down : Bool) (before : List ℕ) (r : ℕ) (after : List ℕ) : Type 0 where
+-- r says whether no vertex below n is on a cycle; then set x of after has what x reaches, for each x of them; the sets
+-- from n on stay
+pub record Searched (a : List ℕ) (n : ℕ) (before : List ℕ) (r : Bool) (after : List ℕ) : Type 0 where
   pub long : length after ≡ length before
-  pub first : First (λ (j : ℕ). OnCycle a (turn_of j n down)) 0 n r
-  pub known : r ≡ n → Known a after 0 n
+  pub acyclic : (r ≡ true) ↔ ((x : ℕ) → x < n → ¬ OnCycle a x)
+  pub known : r ≡ true → Known a after 0 n
   pub others : (x : ℕ) → n ≤ x → row_of after x ≡ row_of before x
 
 -- no vertex below n outside r is on a cycle, and set x of after has what x reaches, for each x of them; the sets from n
@@ -104,11 +95,12 @@ pub record SettledBut (a : List ℕ) (n : ℕ) (before : List ℕ) (r : Set) (af
   pub acyclic : (x : ℕ) → x < n → ¬ Has r x → ¬ OnCycle a x
   pub known : (x y : ℕ) → x < n → ¬ Has r x → HasRow after x y ↔ Plus (Leads a) x y
 
--- r is the lowest of the first n vertices that is on a cycle, or n; what the lent table has then, and where there is
--- a cycle
-pub record Cycles (a : List ℕ) (n : ℕ) (before : List ℕ) (r : ℕ) (after : List ℕ) : Type 0 where
+-- r is the lowest of the first n vertices that is on a cycle, if there is one; what the lent table has where there is
+-- none, and where there is one
+pub record Cycles (a : List ℕ) (n : ℕ) (before : List ℕ) (r : Option ℕ) (after : List ℕ) : Type 0 where
   pub long : length after ≡ length before
-  pub first : First (OnCycle a) 0 n r
-  pub known : r ≡ n → Known a after 0 n
-  pub others : r ≡ n → (x : ℕ) → n ≤ x → row_of after x ≡ row_of before x
-  pub cleared : r < n → after ≡ replicate (length before) 0
+  pub first : First (OnCycle a) 0 n (unwrap_or r n)
+  pub below : IfSome r (λ (x : ℕ). x < n)
+  pub known : IsNone r → Known a after 0 n
+  pub others : IsNone r → (x : ℕ) → n ≤ x → row_of after x ≡ row_of before x
+  pub cleared : IsSome r → after ≡ replicate (length before) 0

@@ -1,10 +1,13 @@
-use Rattle.reach.proofs.Searches.{from_below, from_below_cleared}
+use mathlib.Core.Logic.{⊎_elim}
+use native.Mathlib.Omega.{arith}
+use Rattle.theory.proofs.Tests.{not_so}
+use Rattle.reach.proofs.Searches.{turned_more}
 use Rattle.reach.proofs.cycle_from_below.Goals as goal
 
-pub returns-then-r-n : goal.returns-then-r-n
-returns-then-r-n c =
-    from_below_cleared c.first_turn-r.ensures
-    c.if-r-n.true c.clear.ensures
-
-pub returns-else-r-n : goal.returns-else-r-n
-returns-else-r-n c = from_below c.first_turn-r.ensures c.if-r-n.false
+pub loop-w-preserved : goal.loop-w-preserved
+loop-w-preserved c =
+    rw c.put_row.ensures
+    (turned_more c.loop-w.invariant c.loop-w-test.true c.requires.2 (rw c.new.ensures.0 at c.turn_reaches-set.ensures)
+    (not_so c.contains.ensures c.if-contains.false) c.with-past.ensures
+    (λ x. ⊎_elim (λ (p, q). (p, omega (arith, q))) (λ e. (omega arith, omega (arith, e))))
+    (λ x p q d. (p, omega (arith, q, d))))

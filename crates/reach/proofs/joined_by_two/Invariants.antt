@@ -1,11 +1,9 @@
-use Prim.Native.Nat.{ℕ, ◌+◌, ◌*◌, ◌≤◌}
-use lib.ListN.{length}
-use Rattle.bits.specs.Sets.{Has, size_of}
+use Rattle.bits.specs.Sets.{size_of}
 use Rattle.reach.proofs.Searches.{Joining}
 use Rattle.reach.proofs.joined_by_two.Given as goal
 
 abbrev pub invariant-loop-left : goal.invariant-loop-left
-invariant-loop-left l = ((x : ℕ) → Has l.initial.left x → 2 * x + 2 ≤ length l.after) × Joining l.after l.initial.left l.all l.left
+invariant-loop-left l = Joining l.after l.initial.left l.all l.left
 
 abbrev pub decreases-loop-left : goal.decreases-loop-left
 decreases-loop-left l = size_of l.left

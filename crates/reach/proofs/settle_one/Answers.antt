@@ -1,14 +1,6 @@
 use Rattle.reach.proofs.Searches.{all_in}
-use Rattle.reach.proofs.Settling.{reached_part, settles_none, settles_one}
+use Rattle.reach.proofs.Settling.{reached_part, settles_one}
 use Rattle.reach.proofs.settle_one.Goals as goal
-
-pub returns-then-not-is_empty : goal.returns-then-not-is_empty
-returns-then-not-is_empty c = settles_none c.requires.4
-
-pub joined-all-requires : goal.joined-all-requires
-joined-all-requires c =
-    let p = c.requires in
-    λ x h. p.3 x (all_in c.difference.ensures (c.is_empty.ensures.0 c.if-not-is_empty.false) x h)
 
 pub returns : goal.returns
 returns c =
@@ -18,4 +10,4 @@ returns c =
     (c.is_empty.ensures.0 c.if-not-is_empty.false) in
     rw c.put_row.ensures
     (settles_one p.1 p.2 p.4 p.5 (rw e at within)
-    (rw e at (c.joined-all.ensures c.args.next.now (reached_part p.4 within))) c.with.ensures)
+    (rw e at (c.joined_by_two-all.ensures c.args.next.now (reached_part p.4 within))) c.with.ensures)
