@@ -9,11 +9,9 @@ use lib.Dec.{ltb}
 use lib.ListN.{length, get_or, drop}
 use lib.Seq.{ext_get_or}
 use borrow.Author.Tests.{ltb-false}
-use Rattle.report.specs.declared.Place.{Place}
-use Rattle.report.specs.declared.Place.TheVariants as place
-use Rattle.report.specs.declared.Stage.{Stage}
-use Rattle.report.specs.declared.Stage.TheVariants as stage
-use Rattle.report.specs.declared.Written.TheVariants as written
+use Rattle.std.specs.Prelude.{Result, Ok, Err}
+use Rattle.report.specs.declared.Refusal.{Refusal}
+use Rattle.report.specs.declared.Refusal.TheVariants as refusal
 use Rattle.theory.specs.Transitions.{Transition, Precedes, precedes}
 use Rattle.theory.proofs.Ascending.{precedes→, precedes_order, member_at, places_ascend}
 use Rattle.theory.proofs.ExpressionCharts.{transitions_ascend, chart_sound, chart_complete, residual_of_start}
@@ -82,7 +80,7 @@ body_transitions s =
     (λ i h. let g : i < length (chart_transitions s) = omega (arith, transitions_length (body_of s), body_count s) in transitions_at (body_of s) i (0, 0, 0) (omega (arith, body_count s)) ∙ body_at s i g)
 
 -- THE TRANSITIONS
-pub passed_chart : (s : List ℕ) → check_of s ≡ stage.Passed → IsChart s (chart_transitions s)
+pub passed_chart : (s : List ℕ) → check_of s ≡ Ok tt → IsChart s (chart_transitions s)
 unfolding chart_transitions
 passed_chart s e =
     let w = passed→well_formed s e in
@@ -116,7 +114,7 @@ bytes_flat (x ∷ ts) h =
     bytes_four x.0 x.1 x.2 0 (flat ts) q.0 q.1 q.2 (omega arith) (bytes_flat ts (λ y m. h y (Memᴰ.tail m)))
 
 -- a body of bytes
-pub passed_bytes : (s : List ℕ) → Bytes s → check_of s ≡ stage.Passed → Bytes (body_of s)
+pub passed_bytes : (s : List ℕ) → Bytes s → check_of s ≡ Ok tt → Bytes (body_of s)
 unfolding body_of chart_transitions
 passed_bytes s bytes e =
     let w = passed→well_formed s e in
@@ -176,7 +174,7 @@ module _ (s : List ℕ) (c : IsChart s (chart_transitions s)) where
       (omega (arith, ap (λ (z : Transition). z.2) r, bytes (4 * i + 4 + 2)))
       (precedes→ x y (places_ascend precedes precedes_order (0, 0, 0) (chart_transitions s) c.ascend i j h g)))
 
-pub body_passes : (s : List ℕ) → Bytes s → check_of s ≡ stage.Passed → chart.check_of (body_of s) ≡ stage.Passed
+pub body_passes : (s : List ℕ) → Bytes s → check_of s ≡ Ok tt → chart.check_of (body_of s) ≡ Ok tt
 body_passes s bytes e =
     let c : IsChart s (chart_transitions s) = passed_chart s e in
     let n = body_count s in
@@ -187,25 +185,25 @@ body_passes s bytes e =
     })
 
 -- THE ANSWER. A length is the body's, which the lent bytes then begin with; what stood past it is kept
-pub length_says : (s out : List ℕ) (k : ℕ) → written_of s (length out) ≡ written.Length k
-    → (check_of s ≡ stage.Passed) × (k ≡ length (body_of s)) × (k ≤ length out) × (buffer_of s out ≡ body_of s ++ drop k out)
+pub length_says : (s out : List ℕ) (k : ℕ) → written_of s (length out) ≡ Ok k
+    → (check_of s ≡ Ok tt) × (k ≡ length (body_of s)) × (k ≤ length out) × (buffer_of s out ≡ body_of s ++ drop k out)
 unfolding written_of buffer_of
 length_says s out k e = go (check_of s) refl e
   where
     fits : (b : Bool) → ltb (length out) (length (body_of s)) ≡ b
-        → cond b (written.Refused (place.OutputLength (length (body_of s)))) (written.Length (length (body_of s))) ≡ written.Length k
+        → cond b (Err (refusal.OutputLength (length (body_of s)))) (Ok (length (body_of s))) ≡ Ok k
         → (k ≡ length (body_of s)) × (k ≤ length out)
     fits true q f = absurd (let z : ◌≡◌ {A = ℕ} 0 1 = cc in omega arith)
     fits false q f = let d : k ≡ length (body_of s) = cc in (d, omega (arith, ltb-false (length out) (length (body_of s)) q))
 
-    go : (g : Stage) → check_of s ≡ g → written_after g (length (body_of s)) (length out) ≡ written.Length k
-        → (check_of s ≡ stage.Passed) × (k ≡ length (body_of s)) × (k ≤ length out) × (buffer_of s out ≡ body_of s ++ drop k out)
-    go (stage.Refused p) q f = absurd (let z : ◌≡◌ {A = ℕ} 0 1 = cc in omega arith)
-    go stage.Passed q f =
+    go : (g : Result Unit Refusal) → check_of s ≡ g → written_after g (length (body_of s)) (length out) ≡ Ok k
+        → (check_of s ≡ Ok tt) × (k ≡ length (body_of s)) × (k ≤ length out) × (buffer_of s out ≡ body_of s ++ drop k out)
+    go (Err p) q f = absurd (let z : ◌≡◌ {A = ℕ} 0 1 = cc in omega arith)
+    go (Ok tt) q f =
         let r = fits (ltb (length out) (length (body_of s))) refl f in
         (q, r.0, r.1, rw (e, r.0))
 
 -- a refusal changes nothing
-pub refusal_keeps : (s out : List ℕ) (p : Place) → written_of s (length out) ≡ written.Refused p → buffer_of s out ≡ out
+pub refusal_keeps : (s out : List ℕ) (p : Refusal) → written_of s (length out) ≡ Err p → buffer_of s out ≡ out
 unfolding buffer_of
 refusal_keeps s out p e = rw e

@@ -1,6 +1,7 @@
 -- The laws of the definitions.
 pub mod Table
 pub mod View
+pub mod KindBytes
 pub mod Uses
 pub mod Answers
 pub mod Aims

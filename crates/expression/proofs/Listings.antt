@@ -8,10 +8,12 @@ use mathlib.Core.List.{List, [], ◌∷◌, ◌++◌, map, Memᴰ}
 use native.Mathlib.Nat.{eq-or-lt_of_le}
 use native.Mathlib.Omega.{arith}
 use lib.Dec.{eqb, ltb}
-use lib.ListN.{length, get_or}
+use lib.ListN.{length, get_or, take, drop}
 use lib.Seq.{sets}
 use borrow.Author.Tests.{ltb-true, ltb-false, eq-eqb, lt-ltb, le-ltb}
+use Rattle.std.specs.Prelude.{sum_by}
 use Rattle.bits.specs.Words.{On}
+use Rattle.bits.specs.Counts.{bits_below}
 use Rattle.theory.specs.Ascending.{Ascending}
 use Rattle.theory.specs.Transitions.{Transition, precedes}
 use Rattle.theory.proofs.Ascending.{one_list, precedes_order}
@@ -20,8 +22,8 @@ use Rattle.chart.specs.Numbered.{Coded, Numbered}
 use Rattle.chart.proofs.Relations.{acts_member}
 use Rattle.expression.specs.Table.{node, count}
 use Rattle.expression.specs.Body.{four_of, flat, chart_transitions, head_of, body_of}
-use Rattle.expression.specs.Listing.{bits_of, transition_of, word_transitions, listing, bits_from, KeysFit}
-use Rattle.expression.proofs.Stores.{append_ascends, bits→, bits←, bits_ascend, listing_many}
+use Rattle.expression.specs.Listing.{bits_of, transition_of, word_transitions, listing, KeysFit}
+use Rattle.expression.proofs.Stores.{append_ascends, bits→, bits←, bits_ascend, bits_sum, listing_many}
 use Rattle.expression.proofs.Chart.{body_transitions}
 
 -- THE ORDER
@@ -132,8 +134,10 @@ module _ (s keys words : List ℕ) (m n : ℕ) (all : n ≡ count s) (N : Number
       (listing← keys words 0 n k i (omega arith) (omega (arith, all, h)) (omega (arith, q, N.coded.listed.few))
       (subst (λ (u : ℕ). On (get_or words u 0) i) e on)))
 
-  pub chart_many : (t : ℕ) → t ≡ bits_from words 0 n → t ≡ length (chart_transitions s)
-  chart_many t e = e ∙ sym (listing_many words keys 0 n) ∙ ap length listing_is_chart
+  -- as many as there are bits
+  pub chart_many : n < 128 → sum_by (λ word. bits_below word 64) (take n (drop 1 words)) ≡ length (chart_transitions s)
+  chart_many h =
+      bits_sum words 0 n (omega (arith, N.coded.listed.words_long)) ∙ sym (listing_many words keys 0 n) ∙ ap length listing_is_chart
 
   pub chart_room : (k : ℕ) → length (body_of s) ≤ k → 4 + length (flat (listing keys words 0 n)) ≤ k
   unfolding body_of four_of

@@ -8,7 +8,7 @@ use native.Mathlib.Omega.{arith}
 use native.Mathlib.Decide.{ℕ_discrete}
 use lib.ListN.{length, get_or, take}
 use borrow.Author.Tests.{lt-ltb, eq-eqb, ne_eqb}
-use Rattle.report.specs.declared.Stage.TheVariants.{Passed}
+use Rattle.std.specs.Prelude.{Ok}
 use Rattle.theory.specs.Expressions.{Expr}
 use Rattle.theory.specs.Nodes.{op_sum, op_product, op_star, Node, bad, dead, leaf, bin, uses_in, uses, Tree}
 use Rattle.theory.specs.PostOrders.{PostOrder, size, root_from, numbered, Acting}
@@ -111,7 +111,7 @@ module _ (nd : ℕ → Node) (n : ℕ) (some : 1 ≤ n) (few : n ≤ 127) (good 
             (same_uses (node (bytes_of nd n)) nd n j (λ k b. read_back nd n k b (good k b)) ∙ tree.once j (omega arith));
       }
 
-  pub bytes_pass : check_of (bytes_of nd n) ≡ Passed
+  pub bytes_pass : check_of (bytes_of nd n) ≡ Ok tt
   bytes_pass = well_formed→passed (bytes_of nd n) bytes_well_formed
 
 -- THE TABLE OF AN EXPRESSION
@@ -130,7 +130,7 @@ module _ (e : Expr) (acting : Acting Positive e) where
       (λ k l u. let b : k < size e = omega (arith, root_size 0 e) in sym (read_back (numbered e) (size e) k b (numbered_good k b)))
       (numbered_post 0 e)
 
-  pub table_passes : size e ≤ 127 → check_of (table_of e) ≡ Passed
+  pub table_passes : size e ≤ 127 → check_of (table_of e) ≡ Ok tt
   table_passes few =
       let r : suc (root_from 0 e) ≡ size e = omega (arith, root_size 0 e) in
       bytes_pass (numbered e) (size e) (size_some e) few numbered_good (rw r at (post_tree (numbered_post 0 e)))

@@ -4,7 +4,7 @@ use mathlib.Core.Path.{◌≡◌, refl}
 use mathlib.Core.List.Memᴰ
 use mathlib.Core.List.{List, [], ◌∷◌, Memᴰ}
 use native.Mathlib.Omega.{arith}
-use Rattle.report.specs.declared.Stage.TheVariants.{Passed}
+use Rattle.std.specs.Prelude.{Ok}
 use Rattle.theory.specs.Tests as tests
 use Rattle.theory.specs.Nodes.{down_f, down, expr, first, up, uses, rise_f, rise, after, remainders, residual, meaning, Tree}
 use Rattle.theory.specs.Climbs.{itself, ClimbsTo, left_of_product, LeadsBy}
@@ -16,7 +16,7 @@ abbrev pub twice : List ℕ
 twice = 1 ∷ 1 ∷ 0 ∷ 0 ∷ 1 ∷ 2 ∷ 0 ∷ 0 ∷ 3 ∷ 0 ∷ 0 ∷ 1
     ∷ 1 ∷ 1 ∷ 0 ∷ 0 ∷ 1 ∷ 2 ∷ 0 ∷ 0 ∷ 3 ∷ 0 ∷ 3 ∷ 4 ∷ 2 ∷ 0 ∷ 2 ∷ 5 ∷ []
 
-passes : check_of twice ≡ Passed
+passes : check_of twice ≡ Ok tt
 unfolding check_of misused malformed lowest_failing tests.lowest count node uses
 passes = refl
 

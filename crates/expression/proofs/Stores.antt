@@ -6,12 +6,14 @@ use mathlib.Core.Logic.{⊎_elim}
 use mathlib.Core.List.Memᴰ
 use mathlib.Core.List.{List, [], ◌∷◌, ◌++◌, map, append_assoc, Memᴰ}
 use native.Mathlib.Numerals.{add-one}
-use native.Mathlib.Nat.{sub-zero, mod-lt, eq-or-lt_of_le, le_of_suc-le-suc}
+use native.Mathlib.Nat.{mod-lt, eq-or-lt_of_le, le_of_suc-le-suc}
 use native.Mathlib.Decide.{dec_lt, ℕ_discrete}
 use native.Mathlib.Omega.{arith}
 use lib.Dec.{eqb, ltb}
-use lib.ListN.{length, get_or, set, length-append, length-map}
-use lib.Seq.{sets, length-sets}
+use lib.ListN.{length, get_or, take, drop, set, length-append, length-map}
+use lib.Seq.{sets, length-sets, drop-cons}
+use Rattle.std.specs.Prelude.{sum_by}
+use Rattle.std.proofs.lemmas.List.Sums.{sum_by-cons}
 use borrow.Author.Tests.{eqb-true, eqb-false, eq-eqb, lt-ltb}
 use Rattle.bits.specs.Words.{On, LowestOn, Without}
 use Rattle.bits.specs.Counts.{bits_below}
@@ -199,13 +201,14 @@ module _ (keys : List ℕ) where
 
 -- VERTICES
 module _ (words : List ℕ) where
-  pub count_next : (k n t r : ℕ) → k < n → r ≡ bits_below (get_or words (k + 1) 0) 64 → t + bits_from words k (n - k) ≡ t + r + bits_from words (k + 1) (n - (k + 1))
+  pub bits_sum : (k n : ℕ) → k + n < length words → sum_by (λ word. bits_below word 64) (take n (drop (suc k) words)) ≡ bits_from words k n
   unfolding bits_from
-  count_next k n t r h e = let d : n - k ≡ suc (n - (k + 1)) = omega arith in rw (d, e, add-one k) (omega arith)
-
-  pub count_end : (k n t : ℕ) → n ≤ k → t + bits_from words k (n - k) ≡ t
-  unfolding bits_from
-  count_end k n t h = let d : n - k ≡ 0 = omega arith in rw d (omega arith)
+  bits_sum k zero h = refl
+  bits_sum k (suc n) h =
+      let l : suc k < length words = omega arith in
+      rw (drop-cons words (suc k) 0 l)
+      (sum_by-cons (λ word. bits_below word 64) (get_or words (suc k) 0) (take n (drop (suc (suc k)) words))
+      ∙ ap (λ (t : ℕ). bits_below (get_or words (suc k) 0) 64 + t) (bits_sum (suc k) n (omega arith)))
 
   module _ (keys : List ℕ) where
     pub listing_next : (k n : ℕ) → k < n → TodoSplit (flat (listing keys words k (n - k))) (flat (word_transitions keys k (get_or words (k + 1) 0))) (flat (listing keys words (k + 1) (n - (k + 1))))
@@ -213,9 +216,6 @@ module _ (words : List ℕ) where
     listing_next k n h =
         let d : n - k ≡ suc (n - (k + 1)) = omega arith in
         record { is = rw (d, add-one k) (flat_append (word_transitions keys k (get_or words (suc k) 0)) (listing keys words (suc k) (n - suc k))) }
-
-    pub listing_all : (n : ℕ) → flat (listing keys words 0 (n - 0)) ≡ flat (listing keys words 0 n)
-    listing_all n = rw (sub-zero n)
 
     pub listing_end : (k n : ℕ) → n ≤ k → flat (listing keys words k (n - k)) ≡ []
     unfolding listing flat

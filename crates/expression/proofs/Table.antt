@@ -9,15 +9,15 @@ use native.Mathlib.Omega.{arith}
 use lib.Dec.{eqb, ltb, leb}
 use lib.ListN.{length}
 use borrow.Author.Tests.{not-true, not-false, eqb-true, eqb-false, ltb-true, ltb-false, leb-true, eq-eqb, le-ltb, lt-ltb, le-leb}
-use Rattle.report.specs.declared.Place.TheVariants as place
-use Rattle.report.specs.declared.Stage.{Stage}
-use Rattle.report.specs.declared.Stage.TheVariants.{Passed, Refused}
+use Rattle.std.specs.Prelude.{Result, Ok, Err}
+use Rattle.report.specs.declared.Refusal.{Refusal}
+use Rattle.report.specs.declared.Refusal.TheVariants as refusal
 use Rattle.theory.specs.Nodes.{Op, op_sum, op_product, op_star, Node, bad, dead, leaf, bin, Tree}
 use Rattle.theory.specs.Least.{Least}
 use Rattle.theory.specs.Tests as tests
 use Rattle.theory.proofs.Search.{least_one}
 use Rattle.theory.proofs.Tests.{lowest_stops}
-use Rattle.expression.specs.Table.{kind_of, action_of, left_of, right_of, branch, parse, node, is_good, count, lowest_failing, length_ok, node_ok, malformed, uses_of, used_once, misused, check_of, Sized, NodeAt, WellFormed, NodesChecked, passed, ill_sized, malformed_at, misused_at}
+use Rattle.expression.specs.Table.{kind_of, action_of, left_of, right_of, branch, parse, node, is_good, count, lowest_failing, length_ok, node_ok, malformed, uses_of, used_once, misused, check_of, Sized, WellFormed, NodesChecked, passed, ill_sized, malformed_at, misused_at}
 
 -- operands are lower than their node
 abbrev Low : ℕ → Node → Type 0
@@ -121,7 +121,7 @@ module _ (s : List ℕ) where
   checked = at_10 (length_ok s) refl
     where
       at_12 : (b : Bool) → ltb (misused s) (count s - 1) ≡ b → Sized s → ((k : ℕ) → k < count s → is_good (node s k) ≡ true)
-          → NodesChecked s (cond b (Refused (place.NodeUses (misused s) (uses_of s (misused s)))) Passed)
+          → NodesChecked s (cond b (Err (refusal.NodeUses (misused s) (uses_of s (misused s)))) (Ok tt))
       at_12 true e z g =
           let l = lowest_law (used_once s) 0 (count s - 1) in
           let h : misused s < count s - 1 = ltb-true _ _ e in
@@ -132,7 +132,7 @@ module _ (s : List ℕ) where
           passed (record { sized = z; good = g; once = λ j q. eqb-true _ 1 (not-false _ (l.below j (omega arith) (omega arith))) })
 
       at_11 : (b : Bool) → ltb (malformed s) (count s) ≡ b → Sized s
-          → NodesChecked s (cond b (Refused (place.Node (malformed s))) (cond (ltb (misused s) (count s - 1)) (Refused (place.NodeUses (misused s) (uses_of s (misused s)))) Passed))
+          → NodesChecked s (cond b (Err (refusal.Node (malformed s))) (cond (ltb (misused s) (count s - 1)) (Err (refusal.NodeUses (misused s) (uses_of s (misused s)))) (Ok tt)))
       at_11 true e z =
           let l = lowest_law (node_ok s) 0 (count s) in
           let h : malformed s < count s = ltb-true _ _ e in
@@ -144,22 +144,22 @@ module _ (s : List ℕ) where
 
       at_10 : (b : Bool) → length_ok s ≡ b
           → NodesChecked s (cond b
-          (cond (ltb (malformed s) (count s)) (Refused (place.Node (malformed s)))
-          (cond (ltb (misused s) (count s - 1)) (Refused (place.NodeUses (misused s) (uses_of s (misused s)))) Passed))
-          (Refused (place.NodesLength (length s))))
+          (cond (ltb (malformed s) (count s)) (Err (refusal.Node (malformed s)))
+          (cond (ltb (misused s) (count s - 1)) (Err (refusal.NodeUses (misused s) (uses_of s (misused s)))) (Ok tt)))
+          (Err (refusal.NodesLength (length s))))
       at_10 true e = at_11 (ltb (malformed s) (count s)) refl (sizes e)
       at_10 false e = ill_sized (λ z. false≢true (sym e ∙ sizes← z))
 
-  pub passed→well_formed : check_of s ≡ Passed → WellFormed s
+  pub passed→well_formed : check_of s ≡ Ok tt → WellFormed s
   passed→well_formed e = go (check_of s) checked e
     where
-      go : (g : Stage) → NodesChecked s g → g ≡ Passed → WellFormed s
+      go : (g : Result Unit Refusal) → NodesChecked s g → g ≡ Ok tt → WellFormed s
       go _ (passed w) q = w
       go _ (ill_sized f) q = absurd (let z : ◌≡◌ {A = ℕ} 0 1 = cc in omega arith)
       go _ (malformed_at p a b d f) q = absurd (let z : ◌≡◌ {A = ℕ} 0 1 = cc in omega arith)
       go _ (misused_at p a b d f g) q = absurd (let z : ◌≡◌ {A = ℕ} 0 1 = cc in omega arith)
 
-  pub well_formed→passed : WellFormed s → check_of s ≡ Passed
+  pub well_formed→passed : WellFormed s → check_of s ≡ Ok tt
   unfolding check_of malformed misused
   well_formed→passed w =
       let z = w.sized.some in
@@ -177,7 +177,7 @@ lowest_uses : (s : List ℕ) {p : ℕ} → (uses_of s p ≡ 1 → ⊥) → ((j :
 lowest_uses s e low = record { holds = e; lowest = λ j h q. q (low j h) }
 
 module _ {s : List ℕ} where
-  one_check : {a b : Stage} → NodesChecked s a → NodesChecked s b → a ≡ b
+  one_check : {a b : Result Unit Refusal} → NodesChecked s a → NodesChecked s b → a ≡ b
   one_check (passed w) (passed v) = refl
   one_check (passed w) (ill_sized h) = absurd (h w.sized)
   one_check (passed w) (malformed_at p z h e low) = absurd (false≢true (sym e ∙ w.good p h))
@@ -188,19 +188,16 @@ module _ {s : List ℕ} where
   one_check (ill_sized i) (misused_at p z g h e low) = absurd (i z)
   one_check (malformed_at q y i d below) (passed v) = absurd (false≢true (sym d ∙ v.good q i))
   one_check (malformed_at q y i d below) (ill_sized h) = absurd (h y)
-  one_check (malformed_at q y i d below) (malformed_at p z h e low) = ap (λ (x : ℕ). Refused (place.Node x)) (least_one (lowest_bad s d below) (lowest_bad s e low))
+  one_check (malformed_at q y i d below) (malformed_at p z h e low) = ap (λ (x : ℕ). Err (refusal.Node x)) (least_one (lowest_bad s d below) (lowest_bad s e low))
   one_check (malformed_at q y i d below) (misused_at p z g h e low) = absurd (false≢true (sym d ∙ g q i))
   one_check (misused_at q y f i d below) (passed v) = absurd (d (v.once q i))
   one_check (misused_at q y f i d below) (ill_sized h) = absurd (h y)
   one_check (misused_at q y f i d below) (malformed_at p z h e low) = absurd (false≢true (sym e ∙ f p h))
-  one_check (misused_at q y f i d below) (misused_at p z g h e low) = ap (λ (x : ℕ). Refused (place.NodeUses x (uses_of s x))) (least_one (lowest_uses s d below) (lowest_uses s e low))
+  one_check (misused_at q y f i d below) (misused_at p z g h e low) = ap (λ (x : ℕ). Err (refusal.NodeUses x (uses_of s x))) (least_one (lowest_uses s d below) (lowest_uses s e low))
 
   -- so that what an answer says is said exactly where it is the answer
-  pub checked_is : {a : Stage} → NodesChecked s a → a ≡ check_of s
+  pub checked_is : {a : Result Unit Refusal} → NodesChecked s a → a ≡ check_of s
   checked_is c = one_check c (checked s)
 
 pub tree : (s : List ℕ) → WellFormed s → Tree (node s) (count s)
 tree s w = record { low = λ k o l r h e. node_low s k o l r e; once = w.once }
-
-pub node_at : (s : List ℕ) → WellFormed s → (k : ℕ) → k < count s → NodeAt s k
-node_at s w k h = record { sized = w.sized; inside = h; good = w.good k h }

@@ -11,7 +11,7 @@ use lib.Dec.{eqb}
 use lib.ListN.{length, get_or, set, replicate, length-set, length-replicate}
 use lib.Seq.{get_or-set_same, get_or-set_other}
 use borrow.Author.Tests.{eqb-true, eqb-false, eq-eqb, ne_eqb}
-use Rattle.report.specs.declared.Stage.TheVariants.{Passed}
+use Rattle.std.specs.Prelude.{Ok}
 use Rattle.theory.specs.Nodes.{Op, op_sum, op_product, op_star, Node, bad, dead, leaf, bin, one, uses_in, uses}
 use Rattle.theory.proofs.Up.{uses_of_lem}
 use Rattle.expression.specs.Table.{kind_of, left_of, right_of, node, is_good, count, op_of, Sized, WellFormed}
@@ -224,7 +224,7 @@ module _ (s : List ℕ) (sized : Sized s) where
       none_yet j g u = marked_none a j (omega (arith, u, i.counted j g, w.once j g))
 
   -- when all have had it they are a tree, and their targets are there
-  pub descent_end : (a b : List ℕ) → a ≡ replicate 128 255 → Descent s 0 b → WellFormed s × TargetsAfter s Passed a b
+  pub descent_end : (a b : List ℕ) → a ≡ replicate 128 255 → Descent s 0 b → WellFormed s × TargetsAfter s (Ok tt) a b
   unfolding uses
   descent_end a b q i = (well, record { found = λ e. aim_end s well b (i.targets well); past = rw q i.past; kept = λ p e. absurd (let z : ◌≡◌ {A = ℕ} 0 1 = cc in omega arith) })
     where

@@ -1,16 +1,19 @@
 -- Counting the uses of every node in one pass.
 use Prim.Native.Nat.{ℕ, zero, suc, ◌+◌, ◌*◌, ◌<◌, ◌≤◌}
 use mathlib.Core.Path.{◌≡◌, refl, ap, sym, ◌∙◌}
-use mathlib.Core.Bool.{Bool, true, false}
+use mathlib.Core.Bool.{Bool, true, false, cond, not}
 use mathlib.Core.List.{List, [], ◌∷◌}
 use native.Mathlib.Numerals.{add-one}
 use native.Mathlib.Omega.{arith}
-use lib.Dec.{eqb}
-use lib.ListN.{length, get_or, set, replicate, length-set, length-replicate}
-use lib.Seq.{get_or-set_same, get_or-set_other}
-use borrow.Author.Tests.{eqb-true, eqb-false, eq-eqb, ne_eqb}
+use lib.Dec.{eqb, ltb}
+use lib.ListN.{length, get_or, take, replicate, length-set, length-replicate}
+use lib.Seq.{length-take-le, get_or-set_same, get_or-set_other}
+use borrow.Author.Tests.{eqb-true, eqb-false}
+use Rattle.std.specs.Prelude.{Some, None, position}
+use Rattle.std.specs.List.{position_or_len}
+use Rattle.theory.specs.Tests as tests
 use Rattle.theory.specs.Nodes.{Op, Node, bad, dead, leaf, bin, one, uses_in, uses}
-use Rattle.expression.specs.Table.{kind_of, left_of, right_of, node, uses_below, NodeAt}
+use Rattle.expression.specs.Table.{kind_of, left_of, right_of, node, lowest_failing, uses_below, NodeAt}
 use Rattle.expression.specs.Uses.{bump, tally, Tallied, AtMost, once_in}
 use Rattle.expression.proofs.Table.{node_low}
 use Rattle.expression.proofs.View.{at_dead, at_leaf_lem, at_bin_lem}
@@ -26,20 +29,6 @@ bump_at a l j h = go (eqb l j) refl
 bump_long : (a : List ℕ) (l : ℕ) {r : ℕ} → r < length a → r < length (bump a l)
 unfolding bump
 bump_long a l h = simp length-set h
-
-set_le : (a : List ℕ) (l v j m : ℕ) → v ≤ m → get_or a j 0 ≤ m → get_or (set a l v) j 0 ≤ m
-set_le [] l v j m h q = q
-set_le (x ∷ a) zero v zero m h q = h
-set_le (x ∷ a) zero v (suc j) m h q = q
-set_le (x ∷ a) (suc l) v zero m h q = q
-set_le (x ∷ a) (suc l) v (suc j) m h q = set_le a l v j m h q
-
-pub bump_le : (a b : List ℕ) (l j : ℕ) → b ≡ bump a l → AtMost 252 a → get_or b j 0 < 255
-unfolding bump
-bump_le a b l j e h =
-    let p = h.each l in
-    let q = h.each j in
-    rw e (let m = set_le a l (get_or a l 0 + 1) j 254 (omega arith) (omega arith) in omega (arith, m))
 
 tally_long : (v : Node) (a : List ℕ) → length (tally v a) ≡ length a
 unfolding bump
@@ -111,10 +100,28 @@ no_uses s (suc m) (suc j) = no_uses s m j
 pub uses_start : (s : List ℕ) → Tallied s 0 (replicate 128 0)
 uses_start s = record { long = length-replicate {A = ℕ} 128 0; each = no_uses s 128 }
 
-pub once_yes : (a : List ℕ) (j : ℕ) → get_or a j 0 ≡ 1 → once_in a j ≡ true
-unfolding once_in
-once_yes a j e = eq-eqb _ 1 e
+-- THE LOWEST that is not used once, as the first count that is not 1
+first_from : (ok : ℕ → Bool) (a : List ℕ) (i m : ℕ) → m ≤ length a → ((k : ℕ) → k < m → ok (i + k) ≡ eqb (get_or a k 0) 1)
+    → lowest_failing ok i m ≡ i + position_or_len (λ count. not (eqb count 1)) (take m a)
+unfolding lowest_failing tests.lowest
+first_from ok a i zero h f = omega arith
+first_from ok [] i (suc m) h f = absurd (omega arith)
+first_from ok (x ∷ a) i (suc m) h f =
+    go (eqb x 1) refl (first_from ok a (suc i) m (omega arith) (λ k q. let z : i + suc k ≡ suc i + k = omega arith in rw z at (f (suc k) (omega arith))))
+  where
+    here : ok i ≡ eqb x 1
+    here = let z : i + 0 ≡ i = omega arith in rw z at (f 0 (omega arith))
 
-pub once_not : (a : List ℕ) (j : ℕ) → (get_or a j 0 ≡ 1 → ⊥) → once_in a j ≡ false
+    go : (b : Bool) → eqb x 1 ≡ b → lowest_failing ok (suc i) m ≡ suc i + position_or_len (λ count. not (eqb count 1)) (take m a)
+        → cond (not (ok i)) i (tests.lowest (λ k. not (ok k)) (suc i) m)
+        ≡ i + cond (not (not (eqb x 1))) (1 + position_or_len (λ count. not (eqb count 1)) (take m a)) 0
+    go true q rest = rw (here, q) (rest ∙ omega arith)
+    go false q rest = rw (here, q) (omega arith)
+
+pub first_misused : (a : List ℕ) (m : ℕ) → m ≤ length a
+    → position (λ count. not (eqb count 1)) (take m a) ≡ cond (ltb (lowest_failing (once_in a) 0 m) m) (Some (lowest_failing (once_in a) 0 m)) None
 unfolding once_in
-once_not a j e = ne_eqb _ 1 e
+first_misused a m h =
+    let e = first_from (once_in a) a 0 m h (λ k q. let y : 0 + k ≡ k = omega arith in rw y) in
+    let z : 0 + position_or_len (λ count. not (eqb count 1)) (take m a) ≡ position_or_len (λ count. not (eqb count 1)) (take m a) = omega arith in
+    rw (e, z, length-take-le m a h)

@@ -3,6 +3,8 @@ use Prim.Native.Nat.{ℕ, zero, suc, ◌<◌, ◌≤◌}
 use mathlib.Core.Path.{◌≡◌, refl, sym, ◌∙◌, subst}
 use mathlib.Core.Bool.{Bool, true, false, cond, ◌&&◌, false≢true}
 use mathlib.Core.List.{List}
+use mathlib.Core.Logic.{by_cases}
+use native.Mathlib.Decide.{dec_lt}
 use native.Mathlib.Omega.{arith}
 use lib.Dec.{eqb, ltb, leb}
 use borrow.Author.Tests.{eqb-true, eqb-false, ltb-true, eq-eqb, ne_eqb, le-leb, lt-leb}
@@ -69,7 +71,17 @@ module _ (s : List ℕ) (k m a l r : ℕ) (em : m ≡ kind_of s k) (ea : a ≡ a
           above : (m ≡ 2 → ⊥) → (m ≡ 3 → ⊥) → (m ≡ 4 → ⊥) → 5 ≤ m
           above h2 h3 h4 = omega arith
 
+  pub good_branch : 2 ≤ m → m ≤ 4 → eqb a 0 && ltb l k && ltb r k ≡ is_good (node s k)
+  good_branch h g = rw (le-leb m 4 g) at (good_bin (λ q. omega arith) (λ q. omega arith))
+
+  pub good_none : 4 < m → false ≡ is_good (node s k)
+  good_none h = rw (lt-leb m 4 h) at (good_bin (λ q. omega arith) (λ q. omega arith))
+
 module _ (s : List ℕ) (k : ℕ) (good : is_good (node s k) ≡ true) where
+  -- its kind is one of five
+  pub kind_le : kind_of s k ≤ 4
+  kind_le = by_cases (dec_lt 4 (kind_of s k)) (λ h. absurd (false≢true (good_none s k _ _ _ _ refl refl refl refl h ∙ good))) (λ h. omega arith)
+
   view : node s k ≡ plain (kind_of s k) (action_of s k) (left_of s k) (right_of s k)
   unfolding node
   view = parse_plain k (kind_of s k) (action_of s k) (left_of s k) (right_of s k) good

@@ -1,10 +1,7 @@
 -- The expression's chart in the form of a chart body, and what writing it into lent bytes answers and leaves there.
-use Rattle.std.specs.Prelude.{ℕ, suc, ◌/◌, ◌%◌, cond, List, [], ◌∷◌, ◌++◌, ltb, length, drop}
-use Rattle.report.specs.declared.Place.TheVariants as place
-use Rattle.report.specs.declared.Stage.{Stage}
-use Rattle.report.specs.declared.Stage.TheVariants as stage
-use Rattle.report.specs.declared.Written.{Written}
-use Rattle.report.specs.declared.Written.TheVariants as written
+use Rattle.std.specs.Prelude.{ℕ, suc, ◌/◌, ◌%◌, cond, List, [], ◌∷◌, ◌++◌, ltb, length, drop, Result, Ok, Err}
+use Rattle.report.specs.declared.Refusal.{Refusal}
+use Rattle.report.specs.declared.Refusal.TheVariants as refusal
 use Rattle.theory.specs.Transitions.{Transition}
 use Rattle.theory.specs.ExpressionCharts.{transitions}
 use Rattle.expression.specs.Table.{node, count, check_of}
@@ -29,19 +26,19 @@ unfoldable pub body_of : List ℕ → List ℕ
 body_of s = head_of (count s) (length (chart_transitions s)) ++ flat (chart_transitions s)
 
 -- 54, where the checks of the nodes have passed
-abbrev pub written_after : Stage → ℕ → ℕ → Written
-written_after (stage.Refused p) needed n = written.Refused p
-written_after stage.Passed needed n =
-    cond (ltb n needed) (written.Refused (place.OutputLength needed)) (written.Length needed)
+abbrev pub written_after : Result Unit Refusal → ℕ → ℕ → Result ℕ Refusal
+written_after (Err p) needed n = Err p
+written_after (Ok tt) needed n =
+    cond (ltb n needed) (Err (refusal.OutputLength needed)) (Ok needed)
 
 -- the answer for n lent bytes
-unfoldable pub written_of : List ℕ → ℕ → Written
+unfoldable pub written_of : List ℕ → ℕ → Result ℕ Refusal
 written_of s n = written_after (check_of s) (length (body_of s)) n
 
 -- the lent bytes after the call: as they were, or the body and what stood past it
-abbrev pub buffer_after : Written → List ℕ → List ℕ → List ℕ
-buffer_after (written.Refused p) body out = out
-buffer_after (written.Length k) body out = body ++ drop (length body) out
+abbrev pub buffer_after : Result ℕ Refusal → List ℕ → List ℕ → List ℕ
+buffer_after (Err p) body out = out
+buffer_after (Ok k) body out = body ++ drop (length body) out
 
 unfoldable pub buffer_of : List ℕ → List ℕ → List ℕ
 buffer_of s out = buffer_after (written_of s (length out)) (body_of s) out

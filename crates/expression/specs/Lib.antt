@@ -1,6 +1,7 @@
 -- The definitions. The meaning: Charts, WellFormed and NodesChecked in Table, and the bytes of a table in NodeBytes. The
 -- tests that run: check_of in Table, and Body.
 pub mod Table
+pub mod Kinds
 pub mod Body
 pub mod Charts
 pub mod NodeBytes

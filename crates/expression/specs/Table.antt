@@ -1,8 +1,7 @@
 -- The body of a record of kind 1: four bytes a node; the checks 10, 11 and 12; and what makes it well formed.
-use Rattle.std.specs.Prelude.{ℕ, suc, ◌+◌, ◌-◌, ◌*◌, ◌/◌, ◌%◌, ◌<◌, ◌≤◌, ◌≡◌, Bool, true, false, cond, ◌&&◌, not, List, eqb, ltb, leb, length, get_or}
-use Rattle.report.specs.declared.Place.TheVariants as place
-use Rattle.report.specs.declared.Stage.{Stage}
-use Rattle.report.specs.declared.Stage.TheVariants.{Passed, Refused}
+use Rattle.std.specs.Prelude.{ℕ, suc, ◌+◌, ◌-◌, ◌*◌, ◌/◌, ◌%◌, ◌<◌, ◌≤◌, ◌≡◌, Bool, true, false, cond, ◌&&◌, not, List, eqb, ltb, leb, length, get_or, Result, Ok, Err}
+use Rattle.report.specs.declared.Refusal.{Refusal}
+use Rattle.report.specs.declared.Refusal.TheVariants as refusal
 use Rattle.theory.specs.Tests as tests
 use Rattle.theory.specs.Nodes.{Op, op_sum, op_product, op_star, Node, bad, dead, leaf, bin, uses}
 
@@ -79,13 +78,13 @@ used_once s j = eqb (uses_of s j) 1
 unfoldable pub misused : List ℕ → ℕ
 misused s = lowest_failing (used_once s) 0 (count s - 1)
 
-unfoldable pub check_of : List ℕ → Stage
+unfoldable pub check_of : List ℕ → Result Unit Refusal
 check_of s =
     cond (length_ok s)
-    (cond (ltb (malformed s) (count s)) (Refused (place.Node (malformed s)))
-    (cond (ltb (misused s) (count s - 1)) (Refused (place.NodeUses (misused s) (uses_of s (misused s))))
-    Passed))
-    (Refused (place.NodesLength (length s)))
+    (cond (ltb (malformed s) (count s)) (Err (refusal.Node (malformed s)))
+    (cond (ltb (misused s) (count s - 1)) (Err (refusal.NodeUses (misused s) (uses_of s (misused s))))
+    (Ok tt)))
+    (Err (refusal.NodesLength (length s)))
 
 -- 1 to 127 nodes
 pub record Sized (s : List ℕ) : Type 0 where
@@ -106,11 +105,11 @@ pub record WellFormed (s : List ℕ) : Type 0 where
   pub once : (j : ℕ) → suc j < count s → uses (node s) (count s) j ≡ 1
 
 -- what each answer of the checks says
-pub data NodesChecked (s : List ℕ) : Stage → Type 0 where
-  passed : WellFormed s → NodesChecked s Passed
-  ill_sized : (Sized s → ⊥) → NodesChecked s (Refused (place.NodesLength (length s)))
+pub data NodesChecked (s : List ℕ) : Result Unit Refusal → Type 0 where
+  passed : WellFormed s → NodesChecked s (Ok tt)
+  ill_sized : (Sized s → ⊥) → NodesChecked s (Err (refusal.NodesLength (length s)))
   malformed_at : (p : ℕ) → Sized s → p < count s → is_good (node s p) ≡ false
-      → ((k : ℕ) → k < p → is_good (node s k) ≡ true) → NodesChecked s (Refused (place.Node p))
+      → ((k : ℕ) → k < p → is_good (node s k) ≡ true) → NodesChecked s (Err (refusal.Node p))
   misused_at : (p : ℕ) → Sized s → ((k : ℕ) → k < count s → is_good (node s k) ≡ true)
       → suc p < count s → (uses_of s p ≡ 1 → ⊥) → ((j : ℕ) → j < p → uses_of s j ≡ 1)
-      → NodesChecked s (Refused (place.NodeUses p (uses_of s p)))
+      → NodesChecked s (Err (refusal.NodeUses p (uses_of s p)))

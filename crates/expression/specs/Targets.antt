@@ -1,8 +1,6 @@
 -- Where every node leads, from the root down: the climb of document 01, each node's answer taken from its parent's.
-use Rattle.std.specs.Prelude.{ℕ, ◌+◌, ◌<◌, ◌≤◌, ◌≡◌, true, ◌≢◌, List, length, get_or, set}
-use Rattle.report.specs.declared.Place.{Place}
-use Rattle.report.specs.declared.Stage.{Stage}
-use Rattle.report.specs.declared.Stage.TheVariants.{Passed, Refused}
+use Rattle.std.specs.Prelude.{ℕ, ◌+◌, ◌<◌, ◌≤◌, ◌≡◌, true, ◌≢◌, List, length, get_or, set, Result, Ok, Err}
+use Rattle.report.specs.declared.Refusal.{Refusal}
 use Rattle.theory.specs.Nodes.{Op, op_sum, op_product, op_star, Node, bad, dead, leaf, bin, after}
 use Rattle.theory.specs.ExpressionCharts.{vertex_of}
 use Rattle.expression.specs.Table.{node, is_good, count}
@@ -43,7 +41,7 @@ pub record Turn (s : List ℕ) (k : ℕ) (a b : List ℕ) : Type 0 where
 
 -- what the check of the nodes s makes of the bytes a that it is lent, by its answer: where the nodes pass, their targets,
 -- and past these what stood there; where they are refused, what stood there
-pub record TargetsAfter (s : List ℕ) (answer : Stage) (a b : List ℕ) : Type 0 where
-  pub found : answer ≡ Passed → Targets s b
+pub record TargetsAfter (s : List ℕ) (answer : Result Unit Refusal) (a b : List ℕ) : Type 0 where
+  pub found : answer ≡ Ok tt → Targets s b
   pub past : (j : ℕ) → count s ≤ j → get_or b j 0 ≡ get_or a j 0
-  pub kept : (p : Place) → answer ≡ Refused p → b ≡ a
+  pub kept : (p : Refusal) → answer ≡ Err p → b ≡ a

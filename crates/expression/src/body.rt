@@ -4,7 +4,8 @@ ghost use Rattle.std.proofs.lemmas.List.Edits.{sets};
 ghost use Rattle.expression.specs.Body.{four_of, flat, head_of};
 ghost use Rattle.expression.specs.Listing.{transition_of, word_transitions, listing, KeysFit, Stored};
 
-// Four bytes from index at on: the head, or a transition.
+// Four bytes from index at on: the head, or a transition. By four stores: `copy_from_slice` from an array of four took
+// `write_chart` 9 in 100 more instructions.
 fn write_four(out: &mut [u8], at: usize, a: u8, b: u8, c: u8, d: u8)
     requires { at + 4 ≤ length out.old }
     ensures { out.new ≡ sets out.old at (four_of a b c d) }
@@ -45,6 +46,7 @@ fn write_leaving(out: &mut [u8], at: usize, keys: &[usize; 128], k: usize, word:
         out.new result }
 {
     let mut p = at;
+    // by hand, since of what a walk over `places` has left it isn't known that it fits a word
     let mut left = word;
     while left != 0 {
         let i = bits::lowest_bit(left);
@@ -63,10 +65,8 @@ fn write_transitions<'a>(out: &mut [u8], n: usize, keys: &'a [usize; 128], words
         (flat (listing keys.now words.now 0 n)) }
 {
     let mut at: usize = 4;
-    let mut k: usize = 0;
-    while k < n {
+    for k in 0..n {
         at = write_leaving(out, at, keys, k, words[k + 1]);
-        k += 1;
     }
 }
 

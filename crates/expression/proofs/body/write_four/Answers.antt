@@ -1,17 +1,6 @@
 -- `expression::body::write_four` meets its contract. The four stores in turn.
-use native.Mathlib.Omega.{arith}
-use lib.ListN.{length-set}
 use Rattle.expression.proofs.Stores.{stores_four}
 use Rattle.expression.proofs.body.write_four.Goals as goal
-
-pub bounds-out-at-2 : goal.bounds-out-at-2
-bounds-out-at-2 c = simp length-set (omega arith)
-
-pub bounds-out-at-3 : goal.bounds-out-at-3
-bounds-out-at-3 c = simp length-set (omega arith)
-
-pub bounds-out-at-4 : goal.bounds-out-at-4
-bounds-out-at-4 c = simp length-set (omega arith)
 
 pub returns : goal.returns
 returns c = stores_four _ _ _ _ _ _

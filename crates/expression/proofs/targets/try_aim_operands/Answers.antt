@@ -2,47 +2,24 @@
 use mathlib.Core.Path.{sym, ◌∙◌}
 use mathlib.Core.Bool.{false≢true}
 use native.Mathlib.Omega.{arith}
+use Rattle.expression.proofs.KindBytes.{with_operands, without_operands}
 use Rattle.expression.proofs.Trees.{turn_none, turn_both, no_turn}
 use Rattle.expression.proofs.targets.try_aim_operands.Goals as goal
 
-pub returns-then-not-node_ok : goal.returns-then-not-node_ok
-returns-then-not-node_ok c = (
-  (λ e. absurd (false≢true e)),
-  (λ e d. false≢true (sym c.if-not-node_ok.true ∙ c.node_ok.ensures ∙ d.good)),
-)
-
-pub returns-then-own : goal.returns-then-own
-returns-then-own c = ((λ e. absurd (false≢true e)), (λ e d. d.aimed c.if-own.true))
-
-pub kind_of-kind-requires : goal.kind_of-kind-requires
-kind_of-kind-requires c =
-    let p = c.requires in
-    record { sized = p.0; inside = p.1; good = sym c.node_ok.ensures ∙ c.if-not-node_ok.false }
-
-pub returns-then-kind-lt-SUM : goal.returns-then-kind-lt-SUM
-returns-then-kind-lt-SUM c =
+pub returns-then-not-has_operands : goal.returns-then-not-has_operands
+returns-then-not-has_operands c =
     let good = sym c.node_ok.ensures ∙ c.if-not-node_ok.false in
-    let turn = turn_none _ _ good _ c.if-own.false (omega (arith, c.kind_of-kind.ensures, c.if-kind-lt-SUM.true)) in
+    let m = without_operands c.has_operands.ensures c.if-not-has_operands.true in
+    let turn = turn_none _ _ good _ c.if-own.false (omega (arith, c.kind-kind.ensures)) in
     ((λ e. turn), (λ e. absurd (false≢true (sym e))))
-
-pub left_of-left-requires : goal.left_of-left-requires
-left_of-left-requires c =
-    let p = c.requires in
-    let good = sym c.node_ok.ensures ∙ c.if-not-node_ok.false in
-    (record { sized = p.0; inside = p.1; good = good }, omega (arith, c.kind_of-kind.ensures))
-
-pub right_of-right-requires : goal.right_of-right-requires
-right_of-right-requires c =
-    let p = c.requires in
-    let good = sym c.node_ok.ensures ∙ c.if-not-node_ok.false in
-    (record { sized = p.0; inside = p.1; good = good }, omega (arith, c.kind_of-kind.ensures))
 
 pub returns : goal.returns
 returns c =
-    let kind = c.kind_of-kind.ensures in
+    let kind = c.kind-kind.ensures in
+    let m = with_operands c.has_operands.ensures c.if-not-has_operands.false in
     let good = sym c.node_ok.ensures ∙ c.if-not-node_ok.false in
-    let el = c.left_of-left.ensures.0 in
-    let er = c.right_of-right.ensures.0 in (
+    let el = c.left-left.ensures.0 in
+    let er = c.right-right.ensures.0 in (
       (λ e. turn_both _ _ good _ c.if-own.false _ _ _ _ (omega arith) kind el er c.left_target.ensures e),
-      (λ e. no_turn _ _ good _ _ _ (omega (arith, kind)) el er e),
+      (λ e. no_turn _ _ good _ _ _ (omega arith) el er e),
     )

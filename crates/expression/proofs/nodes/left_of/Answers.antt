@@ -1,9 +1,0 @@
--- `expression::nodes::left_of` meets its contract. The left operand of a well_formed node is lower.
-use native.Mathlib.Omega.{arith}
-use Rattle.expression.proofs.View.{operands}
-use Rattle.expression.proofs.nodes.left_of.Goals as goal
-
-pub returns : goal.returns
-returns c =
-    let p = operands _ _ c.requires.0.good c.requires.1 in
-    (c.byte.ensures.0, omega (arith, p.0, c.byte.ensures.0))
