@@ -1,22 +1,21 @@
 -- The entries of a loop in the bytes: what 50 asks of them, where they lead, and their bytes cleared.
 use Prim.Native.Nat.{ℕ, ◌+◌, ◌-◌, ◌≤◌, ◌<◌}
-use mathlib.Core.Path.{◌≡◌, refl, sym, ap, ◌∙◌, subst}
+use mathlib.Core.Path.{◌≡◌, sym, ap, ◌∙◌}
 use mathlib.Core.Logic.{◌≢◌, by_cases}
 use mathlib.Core.Bool.{◌&&◌}
 use mathlib.Core.List.{List, ◌++◌}
 use native.Mathlib.Decide.{ℕ_discrete, dec_lt}
 use native.Mathlib.Omega.{arith}
 use lib.Dec.{eqb, leb}
-use lib.ListN.{length, get_or, set, take, drop, length-set}
-use lib.Seq.{get_or-set_same, get_or-set_other, get_or-take, get_or-drop, take_at, drop_at, length-take-le}
+use lib.ListN.{length, get_or, take, drop}
+use lib.Seq.{get_or-take, get_or-drop, take_at, drop_at, length-take-le}
 use borrow.Rule.Slice.PartMut.{post_of, put_mid, same_len_mid, mid_len, take_put, drop_put}
 use Rattle.theory.proofs.Tests.{decides_same, decides_and, decides_eqb, decides_leb}
 use Rattle.theory.specs.Tests.{Decides}
-use Rattle.report.specs.declared.Stage.TheVariants as stage
+use Rattle.std.specs.Prelude.{Ok}
 use Rattle.bits.specs.Bits.{HighestByte}
 use Rattle.bits.specs.declared.sets.Set.{Set}
-use Rattle.bits.specs.Sets.{empty_set, Members}
-use Rattle.bits.proofs.Members.{none}
+use Rattle.bits.specs.Sets.{Members}
 use Rattle.bits.specs.declared.Span.{Span}
 use Rattle.chart.specs.Bodies.{count_of, from_of}
 use Rattle.chart.specs.Checks.{check_of}
@@ -45,13 +44,10 @@ fits_test b standing n h e H = decides_same (to, from) (decides_and (decides_eqb
           (λ z. let (i, l, q) = H.is_byte (omega arith) in omega (arith, q, f.marks i (omega (arith, l, f.long)))),
     )
 
--- where the standing entries of (v, l) lead: a level of 0 is that of branches
+-- where the standing entries of (v, l) lead, above the level 0 of branches
 module _ {b labels standing : List ℕ} {v l : ℕ} {s : Set} where
   pub entry_all : 0 < l → Members (StandingOf b labels standing v l) s → Members (EntryTargets b labels standing v l) s
   entry_all some M = record { exactly = λ w h. ((λ g. (some, (M.exactly w h).0 g)), (λ e. (M.exactly w h).1 e.1)) }
-
-  pub no_entry : l ≡ 0 → s ≡ empty_set → Members (EntryTargets b labels standing v l) s
-  no_entry z e = record { exactly = λ w h. ((λ g. absurd (none w (rw e at g))), (λ g. absurd (omega (arith, z, g.0)))) }
 
 -- those whose label is l are cleared before place i
 pub record Clearing (labels : List ℕ) (l i : ℕ) (before after : List ℕ) : Type 0 where
@@ -59,40 +55,6 @@ pub record Clearing (labels : List ℕ) (l i : ℕ) (before after : List ℕ) : 
   pub gone : (k : ℕ) → k < i → get_or labels k 0 ≡ l → get_or after k 0 ≡ 0
   pub kept : (k : ℕ) → k < i → get_or labels k 0 ≢ l → get_or after k 0 ≡ get_or before k 0
   pub above : (k : ℕ) → i ≤ k → get_or after k 0 ≡ get_or before k 0
-
-pub clearing_none : {labels : List ℕ} {l : ℕ} {before : List ℕ} → Clearing labels l 0 before before
-clearing_none =
-    record {
-      long = refl;
-      gone = λ k q. absurd (omega (arith, q));
-      kept = λ k q. absurd (omega (arith, q));
-      above = λ k p. refl;
-    }
-
-pub clearing_more : {labels : List ℕ} {l i label x : ℕ} {before after : List ℕ} → Clearing labels l i before after → i < length before
-    → label ≡ get_or labels i 0 → (label ≡ l → x ≡ 0) → (¬ (label ≡ l) → x ≡ get_or after i 0)
-    → Clearing labels l (i + 1) before (set after i x)
-clearing_more {labels} {l} {i} {label} {x} {before} {after} C h e g f = record {
-  long = length-set after i x ∙ C.long;
-  gone =
-      λ k q z. by_cases (ℕ_discrete k i) (λ m. here k m ∙ g (e ∙ subst (λ (j : ℕ). get_or labels j 0 ≡ l) m z))
-      (λ n. there k n ∙ C.gone k (omega (arith, q, n)) z);
-  kept = λ k q z. by_cases (ℕ_discrete k i)
-      (λ m. here k m ∙ f (λ y. z (subst (λ (j : ℕ). get_or labels j 0 ≡ l) (sym m) (sym e ∙ y)))
-      ∙ C.above i (omega arith) ∙ subst (λ (j : ℕ). get_or before i 0 ≡ get_or before j 0) (sym m) refl)
-      (λ n. there k n ∙ C.kept k (omega (arith, q, n)) z);
-  above = λ k p. there k (omega (arith, p)) ∙ C.above k (omega (arith, p));
-}
-  where
-    here : (k : ℕ) → k ≡ i → get_or (set after i x) k 0 ≡ x
-    here k m = rw m (get_or-set_same after i x 0 (omega (arith, h, C.long)))
-
-    there : (k : ℕ) → k ≢ i → get_or (set after i x) k 0 ≡ get_or after k 0
-    there k n = get_or-set_other after i k x 0 n
-
-pub clearing_all : {labels : List ℕ} {l i : ℕ} {before after : List ℕ} → length labels ≤ i → Clearing labels l i before after
-    → Cleared labels l before after
-clearing_all h C = record { long = C.long; gone = λ k q. C.gone k (omega (arith, q, h)); kept = λ k q. C.kept k (omega (arith, q, h)) }
 
 -- WHERE A PART OF A LIST IS PUT BACK, by index: from place a up to place e
 module _ (a e : ℕ) (xs ys : List ℕ) (h : a ≤ e) (g : e ≤ length xs) (l : length ys ≡ e - a) where
@@ -161,5 +123,5 @@ cleared_out {b} {labels} {v} {l} {r} {before} {ys} R e f C = record {
         (λ n. put_high r.from r.to before ys o w y k (omega (arith, n))))
 
 -- kept transitions of a body that passes lead to numbers of sets
-pub kept_low : {b keep : List ℕ} → check_of b ≡ stage.Passed → (u w : ℕ) → Kept b keep u w → w < 128
+pub kept_low : {b keep : List ℕ} → check_of b ≡ Ok tt → (u w : ℕ) → Kept b keep u w → w < 128
 kept_low {b} c u w k = omega (arith, k.enters, to_low (well_formed b c) k.at k.within)

@@ -4,14 +4,13 @@ use Prim.Native.Nat.{ℕ}
 use mathlib.Core.Path.{◌≡◌, refl, sym, ◌∙◌, ap₂}
 use mathlib.Core.Logic.{◌≢◌}
 use mathlib.Core.List.{List, ◌∷◌, map}
-use native.Mathlib.Omega.{arith}
 use lib.ListN.{length}
 use Rattle.theory.specs.Charts.{Formed, Listed, Loop}
 use Rattle.theory.specs.Checks.{Passed}
 use Rattle.theory.specs.Standing.{Loops}
 use Rattle.theory.specs.Removals.{Answer, done, refused_51, refused_52, Plain, left_loops, PlainAll}
 use Rattle.theory.proofs.Removals.{rule_of, left_loops_are}
-use Rattle.report.specs.declared.Removed.TheVariants.{Done}
+use Rattle.std.specs.Prelude.{Ok}
 use Rattle.bits.specs.Bits.{Bytes}
 use Rattle.chart.specs.Bodies.{vertices_of, count_of, WellFormed}
 use Rattle.chart.specs.Steps.{StepsOf}
@@ -20,7 +19,7 @@ use Rattle.chart.proofs.Relations.{steps_formed, steps_listed}
 use Rattle.chart.proofs.Standing.{only?, stands_agree, stands_same, taken_stands}
 use Rattle.elimination.specs.Removals.{removed_as, removal_of, left_of, answers_of, left_after}
 use Rattle.elimination.specs.RemovalAnswers.{Fits}
-use Rattle.elimination.proofs.Removals.{removal_ruled, left_kept, done_leaves}
+use Rattle.elimination.proofs.Removals.{err_not_ok, removal_ruled, left_kept, done_leaves}
 
 -- a chart and labels that pass: 20, 21 and 30, and 32 to 35
 pub record Passing (b labels : List ℕ) : Type 0 where
@@ -47,7 +46,7 @@ module _ {b labels : List ℕ} (c : Passing b labels) where
     call_answers p = removal_ruled b labels v l standing c.bytes (fits h) (rule_of formed c.passed loops (stands_agree h) v l p)
 
     -- a refusal keeps the bytes
-    refusal_stands : {a : Answer} → Plain (StepsOf b labels) X v l a → removed_as a ≢ Done
+    refusal_stands : {a : Answer} → Plain (StepsOf b labels) X v l a → removed_as a ≢ (Ok tt)
         → StandsFor b labels (left_of b labels v l standing) X
     refusal_stands p n = rw (left_kept b labels v l standing (λ e. n (sym (call_answers p) ∙ e))) h
 
@@ -57,8 +56,8 @@ module _ {b labels : List ℕ} (c : Passing b labels) where
     call_stands done (Plain.goes x n) =
         taken_stands (only? v l) (done_leaves b labels v l standing (call_answers (Plain.goes x n)))
         (λ u m (e, f). rw f (loops v l x).0) h
-    call_stands (refused_51 p q) r = refusal_stands r (λ e. let z : ◌≡◌ {A = ℕ} 0 1 = cc in omega arith)
-    call_stands (refused_52 p q k) r = refusal_stands r (λ e. let z : ◌≡◌ {A = ℕ} 0 1 = cc in omega arith)
+    call_stands (refused_51 p q) r = refusal_stands r err_not_ok
+    call_stands (refused_52 p q k) r = refusal_stands r err_not_ok
 
   -- THE LIST: the answers, and what stands after it
   pub calls_agree : {X Y : Loops} {standing : List ℕ} → ((v l : ℕ) → X v l → Loop (StepsOf b labels) v l)

@@ -13,14 +13,12 @@ use lib.ListN.{length, get_or}
 use Rattle.theory.specs.Tests.{Decides, some_in}
 use Rattle.theory.specs.Standing.{Loops, SameLoops}
 use Rattle.theory.specs.Orders.{Pair, Listing, Distinct, none, one}
-use Rattle.theory.specs.Removals.{Only}
 use Rattle.theory.specs.MultiSteps.{loop_at}
 use Rattle.theory.proofs.Tests.{decided, not_so, decides_same, decides_and, decides_or, decides_not, decides_in}
 use Rattle.theory.proofs.Tests.{decides_eqb, decides_ltb, decides_leb}
 use Rattle.theory.proofs.Pairs.{distinct_cons}
 use Rattle.theory.proofs.MultiSteps.{pair_same, at_member, member_at, distinct_at, at_distinct}
-use Rattle.chart.specs.Standing.{TakenOut, TakenOutOf}
-use Rattle.chart.proofs.Standing.{only?}
+use Rattle.chart.specs.Standing.{TakenOutOf}
 use Rattle.elimination.specs.RemovalAnswers.{Fits}
 use Rattle.elimination.specs.Together.{loops_of, twice_test, loop_list_test}
 use Rattle.elimination.specs.TogetherAnswers.{LoopListFits}
@@ -46,10 +44,10 @@ loops_at (v ∷ l ∷ bytes) (suc i) h =
     loops_at bytes i (omega (arith, h)) ∙ pair_same (ap at e) (ap at f)
 
 -- the loop at place i, with the bytes read
-pub loop_here : (loops : List ℕ) (i : ℕ) {n v l : ℕ} → i < n → n ≡ length loops / 2 → v ≡ start_at loops i → l ≡ level_at loops i
+pub loop_here : (loops : List ℕ) (i : ℕ) {v l : ℕ} → i < length loops / 2 → v ≡ start_at loops i → l ≡ level_at loops i
     → (i < length (loops_of loops)) × (loop_at (loops_of loops) i ≡ (v, l))
-loop_here loops i h e f g =
-    let k : i < length (loops_of loops) = omega (arith, h, e, loops_long loops) in
+loop_here loops i h f g =
+    let k : i < length (loops_of loops) = omega (arith, h, loops_long loops) in
     (k, loops_at loops i k ∙ pair_same (sym f) (sym g))
 
 -- 56: THE TEST DECIDES THE MEANING
@@ -88,20 +86,6 @@ tests_loop_list loops =
 abbrev pub SameAt : (loops : List ℕ) (j i : ℕ) → Type 0
 SameAt loops j i = (start_at loops j ≡ start_at loops i) × (level_at loops j ≡ level_at loops i)
 
-module _ (loops : List ℕ) (i : ℕ) where
-  -- with the bytes read
-  pub decides_at : (j : ℕ) {start level x y : ℕ} → start ≡ start_at loops i → level ≡ level_at loops i
-      → x ≡ start_at loops j → y ≡ level_at loops j → Decides (eqb x start && eqb y level) (SameAt loops j i)
-  decides_at j {start} {level} {x} {y} e f g h =
-      decides_same ((λ (p, q). (sym g ∙ p ∙ e, sym h ∙ q ∙ f)), (λ (p, q). (g ∙ p ∙ sym e, h ∙ q ∙ sym f)))
-      (decides_and (decides_eqb x start) (decides_eqb y level))
-
-  pub stands_at : (j : ℕ) → j < i → SameAt loops j i → Decides true (StandsBefore loops i)
-  stands_at j l (s, t) = ((λ e. record { at = j; earlier = l; start = s; level = t }), (λ b. refl))
-
-  pub stands_nowhere : ((j : ℕ) → j < i → ¬ SameAt loops j i) → Decides false (StandsBefore loops i)
-  stands_nowhere n = ((λ e. absurd (false≢true e)), (λ b. absurd (n b.at b.earlier (b.start, b.level))))
-
 -- WHETHER 56 PASSES, by the bytes
 module _ (n : ℕ) where
   decides_length : Decides (not (eqb (n % 2) 0) || ltb 128 n) ((n % 2 ≢ 0) ⊎ (128 < n))
@@ -115,12 +99,6 @@ module _ (n : ℕ) where
       )
 
 module _ (loops : List ℕ) where
-  pub length_refused : not (eqb (length loops % 2) 0) || ltb 128 (length loops) ≡ true → Decides false (LoopListFits loops)
-  length_refused t = (
-    (λ e. absurd (false≢true e)),
-    (λ f. absurd (⊎_elim (λ n. n f.even) (λ l. omega (arith, f.short)) ((decides_length (length loops)).0 t))),
-  )
-
   pub twice_refused : (i : ℕ) → i < length loops / 2 → StandsBefore loops i → Decides false (LoopListFits loops)
   twice_refused i h s =
       let k : i < length (loops_of loops) = omega (arith, h, loops_long loops) in
@@ -186,24 +164,6 @@ module _ {b labels : List ℕ} where
 
   pub nothing_taken : {X : Loops} → ((u m : ℕ) → ¬ X u m) → (before : List ℕ) → TakenOutOf b labels X before before
   nothing_taken n before = record { long = refl; gone = λ i h x. absurd (n _ _ x); kept = λ i h y. refl }
-
-  pub first_none : (loops before : List ℕ) → TakenOutOf b labels (AmongFirst loops 0) before before
-  first_none loops = nothing_taken (λ u m g. omega (arith, g.within))
-
-  pub first_more : {loops before between after : List ℕ} {n v l : ℕ} → TakenOutOf b labels (AmongFirst loops n) before between
-      → v ≡ start_at loops n → l ≡ level_at loops n → TakenOut b labels v l between after
-      → TakenOutOf b labels (AmongFirst loops (n + 1)) before after
-  first_more {loops} {n = n} {v} {l} t e f s = taken_same (λ u m. (split u m, join u m)) (taken_then (only? v l) t s)
-    where
-      split : (u m : ℕ) → AmongFirst loops (n + 1) u m → AmongFirst loops n u m ⊎ Only v l u m
-      split u m g = by_cases (ℕ_discrete g.at n)
-          (λ z. inr (g.start ∙ ap (start_at loops) z ∙ sym e, g.level ∙ ap (level_at loops) z ∙ sym f))
-          (λ z. inl (record { at = g.at; within = omega (arith, g.within, z); start = g.start; level = g.level }))
-
-      join : (u m : ℕ) → AmongFirst loops n u m ⊎ Only v l u m → AmongFirst loops (n + 1) u m
-      join u m = ⊎_elim
-          (λ a. record { at = a.at; within = omega (arith, a.within); start = a.start; level = a.level })
-          (λ (p, q). record { at = n; within = omega arith; start = p ∙ e; level = q ∙ f })
 
   pub first_all : (loops : List ℕ) {before after : List ℕ} {n : ℕ} → n ≡ length loops / 2
       → TakenOutOf b labels (AmongFirst loops n) before after → TakenOutOf b labels (Listing (loops_of loops)) before after

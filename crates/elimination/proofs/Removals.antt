@@ -18,10 +18,8 @@ use Rattle.theory.proofs.Tests.{decided, is_false, decides_same, decides_and, de
 use Rattle.theory.proofs.RemovalTests.{rule_answer_lem}
 use Rattle.theory.proofs.Removals.{one_answer}
 use Rattle.theory.proofs.MultiSteps.{chart_goes}
-use Rattle.report.specs.declared.Removed.{Removed}
-use Rattle.report.specs.declared.Removed.TheVariants.{Done, Refused, StandingBytes, NoEntry, NotLoop}
-use Rattle.report.specs.declared.Stage.{Stage}
-use Rattle.report.specs.declared.Stage.TheVariants as stage
+use Rattle.std.specs.Prelude.{Result, Ok, Err}
+use Rattle.report.specs.declared.Refusal.{Refusal}
 use Rattle.bits.specs.Bits.{Bytes}
 use Rattle.chart.specs.Bodies.{vertices_of, count_of, from_of, to_of, WellFormed}
 use Rattle.chart.specs.Checks.{check_of}
@@ -31,10 +29,15 @@ use Rattle.chart.proofs.Checks.{well_formed, passes}
 use Rattle.chart.proofs.Refusals.{chart_refused}
 use Rattle.chart.proofs.Relations.{steps_formed, steps_listed, standing_step}
 use Rattle.chart.proofs.Standing.{only?, one_taken}
-use Rattle.elimination.specs.Removals.{removed_as, standing_test, when_done, on_fits, stands_test, ruled_of, removal_of, cleared_from, left_of}
+use Rattle.report.specs.Stages.{when_done}
+use Rattle.elimination.specs.Removals.{removed_as, standing_test, on_fits, stands_test, ruled_of, removal_of, cleared_from, left_of}
 use Rattle.elimination.specs.RemovalAnswers.{StandingFits, Fits, OpeningAnswer, other_chart, other_length}
 use Rattle.elimination.specs.RemovalAnswers.{other_standing, LoopRefused, no_entry, breaks_L1, breaks_L2, breaks_L3}
 use Rattle.elimination.specs.RemovalAnswers.{RemovalAnswer, opening, refused, taken}
+
+-- a refusal is not done
+pub err_not_ok : {p : Refusal} → ◌≢◌ {A = Result Unit Refusal} (Err p) (Ok tt)
+err_not_ok e = let z : ◌≡◌ {A = ℕ} 0 1 = cc in omega arith
 
 -- the test of 50 decides what 50 asks
 pub tests_standing : (b standing : List ℕ) → Decides (standing_test b standing) (StandingFits b standing)
@@ -79,34 +82,34 @@ module _ (b labels standing : List ℕ) where
 
 -- 20, 21, 30 AND 50: one of them refuses, or all pass
 module _ (b labels standing : List ℕ) where
-  pub opening_stages : {A : Type 0} → ((a : Removed) → OpeningAnswer b labels standing a → A) → (Fits b labels standing → A) → A
+  pub opening_stages : {A : Type 0} → ((a : Result Unit Refusal) → OpeningAnswer b labels standing a → A) → (Fits b labels standing → A) → A
   opening_stages {A} refuse fits = go (check_of b) refl
     where
-      go : (x : Stage) → check_of b ≡ x → A
-      go stage.Passed c =
+      go : (x : Result Unit Refusal) → check_of b ≡ x → A
+      go (Ok _) c =
           by_cases (ℕ_discrete (length labels) (count_of b))
           (λ h. by_cases (decided (tests_standing b standing))
           (λ s. fits (record { formed = well_formed b c; each = h; marked = s }))
           (λ n. refuse _ (other_standing (well_formed b c) h n)))
           (λ n. refuse _ (other_length (well_formed b c) n))
-      go (stage.Refused p) c = refuse _ (other_chart ((chart_refused b p).0 c))
+      go (Err p) c = refuse _ (other_chart ((chart_refused b p).0 c))
 
-  -- the answer of a call that asks them first, by how it tells them
-  module _ {A : Type 0} (told : Removed → A) (a : A) where
-    pub on_refusal : {x : Removed} → OpeningAnswer b labels standing x → on_fits b labels standing told a ≡ told x
+  -- the answer of a call that asks them first
+  module _ (a : Result Unit Refusal) where
+    pub on_refusal : {x : Result Unit Refusal} → OpeningAnswer b labels standing x → on_fits b labels standing a ≡ x
     on_refusal (other_chart r) = rw ((chart_refused b _).1 r)
     on_refusal (other_length W n) = rw (passes b W, ne_eqb (length labels) (count_of b) n)
     on_refusal (other_standing W h n) =
         rw (passes b W, eq-eqb (length labels) (count_of b) h, is_false (tests_standing b standing) n)
 
-    pub on_fits_lem : Fits b labels standing → on_fits b labels standing told a ≡ a
+    pub on_fits_lem : Fits b labels standing → on_fits b labels standing a ≡ a
     on_fits_lem f = rw (passes b f.formed, eq-eqb (length labels) (count_of b) f.each, (tests_standing b standing).1 f.marked)
 
   -- none of them is done
-  pub opening_refuses : {a : Removed} → OpeningAnswer b labels standing a → a ≢ Done
-  opening_refuses (other_chart r) e = let z : ◌≡◌ {A = ℕ} 0 1 = cc in omega arith
-  opening_refuses (other_length W n) e = let z : ◌≡◌ {A = ℕ} 0 1 = cc in omega arith
-  opening_refuses (other_standing W h n) e = let z : ◌≡◌ {A = ℕ} 0 1 = cc in omega arith
+  pub opening_refuses : {a : Result Unit Refusal} → OpeningAnswer b labels standing a → a ≢ (Ok tt)
+  opening_refuses (other_chart r) = err_not_ok
+  opening_refuses (other_length W n) = err_not_ok
+  opening_refuses (other_standing W h n) = err_not_ok
 
 -- 51 AND 52: one of them is the rule's answer, or it is done
 module _ {R : Steps} {v l : ℕ} where
@@ -117,27 +120,27 @@ module _ {R : Steps} {v l : ℕ} where
   rule_or (Removes.breaks_L2 o e h) = inr (breaks_L2 o e h)
   rule_or (Removes.breaks_L3 o e r h) = inr (breaks_L3 o e r h)
 
-  pub refused_rule : {x : Removed} → LoopRefused R v l x → (a : Answer) × Removes R v l a × (removed_as a ≡ x)
+  pub refused_rule : {x : Result Unit Refusal} → LoopRefused R v l x → (a : Answer) × Removes R v l a × (removed_as a ≡ x)
   refused_rule (no_entry h) = (refused_51 v l, Removes.absent h, refl)
   refused_rule (breaks_L1 o h) = (refused_52 v l 1, Removes.breaks_L1 o h, refl)
   refused_rule (breaks_L2 o e h) = (refused_52 v l 2, Removes.breaks_L2 o e h, refl)
   refused_rule (breaks_L3 o e r h) = (refused_52 v l 3, Removes.breaks_L3 o e r h, refl)
 
-  pub loop_refuses : {x : Removed} → LoopRefused R v l x → x ≢ Done
-  loop_refuses (no_entry h) e = let z : ◌≡◌ {A = ℕ} 0 1 = cc in omega arith
-  loop_refuses (breaks_L1 o h) e = let z : ◌≡◌ {A = ℕ} 0 1 = cc in omega arith
-  loop_refuses (breaks_L2 o p h) e = let z : ◌≡◌ {A = ℕ} 0 1 = cc in omega arith
-  loop_refuses (breaks_L3 o p r h) e = let z : ◌≡◌ {A = ℕ} 0 1 = cc in omega arith
+  pub loop_refuses : {x : Result Unit Refusal} → LoopRefused R v l x → x ≢ (Ok tt)
+  loop_refuses (no_entry h) = err_not_ok
+  loop_refuses (breaks_L1 o h) = err_not_ok
+  loop_refuses (breaks_L2 o p h) = err_not_ok
+  loop_refuses (breaks_L3 o p r h) = err_not_ok
 
 -- THE ANSWER to (v, l)
 module _ (b labels : List ℕ) (v l : ℕ) (standing : List ℕ) where
-  pub removal_refused : {a : Removed} → OpeningAnswer b labels standing a → removal_of b labels v l standing ≡ a
+  pub removal_refused : {a : Result Unit Refusal} → OpeningAnswer b labels standing a → removal_of b labels v l standing ≡ a
   unfolding removal_of
-  removal_refused o = on_refusal b labels standing (λ a. a) _ o
+  removal_refused o = on_refusal b labels standing _ o
 
   removal_fits : Fits b labels standing → removal_of b labels v l standing ≡ ruled_of b labels v l standing
   unfolding removal_of
-  removal_fits f = on_fits_lem b labels standing (λ a. a) _ f
+  removal_fits f = on_fits_lem b labels standing _ f
 
   -- DONE, 51 AND 52: where the rest passes, the answer is the rule's
   rule_says : Bytes labels → WellFormed b
@@ -151,17 +154,14 @@ module _ (b labels : List ℕ) (v l : ℕ) (standing : List ℕ) where
   unfolding ruled_of
   removal_ruled B f r = removal_fits f ∙ ap removed_as (one_answer (rule_says B f.formed) r)
 
-  pub done_fits : removal_of b labels v l standing ≡ Done → Fits b labels standing
+  pub done_fits : removal_of b labels v l standing ≡ Ok tt → Fits b labels standing
   done_fits e =
       opening_stages b labels standing (λ a o. absurd (opening_refuses b labels standing o (sym (removal_refused o) ∙ e))) (λ f. f)
 
 -- THE STANDING BYTES after the call
-pub when_refused : (a : Removed) → a ≢ Done → (cleared kept : List ℕ) → when_done a cleared kept ≡ kept
-when_refused Done n cleared kept = absurd (n refl)
-when_refused (Refused p) n cleared kept = refl
-when_refused StandingBytes n cleared kept = refl
-when_refused (NoEntry u m) n cleared kept = refl
-when_refused (NotLoop u m r) n cleared kept = refl
+pub when_refused : (a : Result Unit Refusal) → a ≢ (Ok tt) → (cleared kept : List ℕ) → when_done a cleared kept ≡ kept
+when_refused (Ok _) n cleared kept = absurd (n refl)
+when_refused (Err p) n cleared kept = refl
 
 module _ (b labels : List ℕ) (v l : ℕ) where
   -- transition i leaves v with the label l
@@ -194,29 +194,29 @@ module _ (b labels : List ℕ) (v l : ℕ) where
       decides_entry : (i : ℕ) → Decides (entry_test i) ((from_of b i ≡ v) × (get_or labels i 0 ≡ l))
       decides_entry i = decides_and (decides_eqb (from_of b i) v) (decides_eqb (get_or labels i 0) l)
 
-  pub left_done : (standing : List ℕ) → removal_of b labels v l standing ≡ Done
+  pub left_done : (standing : List ℕ) → removal_of b labels v l standing ≡ Ok tt
       → left_of b labels v l standing ≡ cleared_from b labels v l 0 standing
   unfolding left_of
   left_done standing e = rw e
 
-  pub left_kept : (standing : List ℕ) → removal_of b labels v l standing ≢ Done → left_of b labels v l standing ≡ standing
+  pub left_kept : (standing : List ℕ) → removal_of b labels v l standing ≢ (Ok tt) → left_of b labels v l standing ≡ standing
   unfolding left_of
   left_kept standing h = when_refused (removal_of b labels v l standing) h _ standing
 
   -- done: exactly the entries of the loop are gone
-  pub done_leaves : (standing : List ℕ) → removal_of b labels v l standing ≡ Done
+  pub done_leaves : (standing : List ℕ) → removal_of b labels v l standing ≡ Ok tt
       → TakenOut b labels v l standing (left_of b labels v l standing)
   done_leaves standing e = rw (left_done standing e) (cleared_taken standing (done_fits b labels v l standing e).marked.long)
 
 -- THE ANSWER AND THE BYTES exactly where document 01 says so
 module _ (b labels : List ℕ) (v l : ℕ) (standing : List ℕ) (B : Bytes labels) where
-  abbrev Gives : Removed → List ℕ → Type 0
+  abbrev Gives : Result Unit Refusal → List ℕ → Type 0
   Gives x after = (removal_of b labels v l standing ≡ x) × (left_of b labels v l standing ≡ after)
 
-  refusing : {x : Removed} → removal_of b labels v l standing ≡ x → x ≢ Done → Gives x standing
+  refusing : {x : Result Unit Refusal} → removal_of b labels v l standing ≡ x → x ≢ (Ok tt) → Gives x standing
   refusing e n = (e, left_kept b labels v l standing (λ z. n (sym e ∙ z)))
 
-  answer_gives : {x : Removed} {after : List ℕ} → RemovalAnswer b labels v l standing x after → Gives x after
+  answer_gives : {x : Result Unit Refusal} {after : List ℕ} → RemovalAnswer b labels v l standing x after → Gives x after
   answer_gives (opening o) = refusing (removal_refused b labels v l standing o) (opening_refuses b labels standing o)
   answer_gives (refused f x) =
       let (a, r, e) = refused_rule x in refusing (removal_ruled b labels v l standing B f r ∙ e) (loop_refuses x)
@@ -228,7 +228,7 @@ module _ (b labels : List ℕ) (v l : ℕ) (standing : List ℕ) (B : Bytes labe
   abbrev Answered : Type 0
   Answered = RemovalAnswer b labels v l standing (removal_of b labels v l standing) (left_of b labels v l standing)
 
-  given : {x : Removed} {after : List ℕ} → RemovalAnswer b labels v l standing x after → Answered
+  given : {x : Result Unit Refusal} {after : List ℕ} → RemovalAnswer b labels v l standing x after → Answered
   given h = let (e, f) = answer_gives h in rw (e, f) h
 
   removal_answer : Answered
@@ -237,7 +237,7 @@ module _ (b labels : List ℕ) (v l : ℕ) (standing : List ℕ) (B : Bytes labe
       (λ f. ⊎_elim (λ c. given (taken f c (cleared_taken b labels v l standing f.marked.long))) (λ x. given (refused f x))
       (rule_or (rule_says b labels v l standing B f.formed)))
 
-  pub removal_says : (x : Removed) (after : List ℕ)
+  pub removal_says : (x : Result Unit Refusal) (after : List ℕ)
       → ((removal_of b labels v l standing ≡ x) × (left_of b labels v l standing ≡ after))
       ↔ RemovalAnswer b labels v l standing x after
   removal_says x after = ((λ (e, f). rw (e, f) at removal_answer), answer_gives)

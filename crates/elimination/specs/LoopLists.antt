@@ -1,18 +1,15 @@
 -- What the parts of a removal of several loops together answer of a list of loops, of its bytes and of what stands.
-use Rattle.std.specs.Prelude.{ℕ, ◌+◌, ◌*◌, ◌<◌, ◌≡◌, ◌≢◌, Bool, true, false, List, length, get_or}
+use Rattle.std.specs.Prelude.{ℕ, ◌+◌, ◌*◌, ◌<◌, ◌≡◌, ◌≢◌, List, length, get_or, Result, Ok, Err}
 use Rattle.theory.specs.Charts.{Steps}
 use Rattle.theory.specs.Orders.{Pair}
 use Rattle.theory.specs.Removals.{Answer, done}
 use Rattle.theory.specs.MultiSteps.{loop_at, InBodyOf, GroupAnswer, RemovesAt, EachGoes, RemovesTogether}
-use Rattle.report.specs.declared.Removed.{Removed}
-use Rattle.report.specs.declared.Together.{Together}
-use Rattle.report.specs.declared.Together.TheVariants.{Removal, LoopList, StartInside}
+use Rattle.report.specs.declared.Refusal.{Refusal}
 use Rattle.bits.specs.Sets.{Members}
 use Rattle.chart.specs.Steps.{StandingOf}
-use Rattle.elimination.specs.declared.Ruling.{Ruling}
+use Rattle.bits.specs.declared.Set.{Set}
 use Rattle.elimination.specs.Removals.{removed_as}
 use Rattle.elimination.specs.Together.{loops_of, together_as}
-use Rattle.elimination.specs.Loops.{is_done}
 
 -- the start and the level at place i of a list of bytes
 abbrev pub start_at : List ℕ → ℕ → ℕ
@@ -35,7 +32,7 @@ pub record InSomeBody (R : Steps) (cs : List Pair) (n w : ℕ) : Type 0 where
   pub inside : InBodyOf R (loop_at cs at) w
 
 -- x is the answer of the first loop of the list that is refused by itself
-pub record FirstRefused (R : Steps) (cs : List Pair) (x : Removed) : Type 0 where
+pub record FirstRefused (R : Steps) (cs : List Pair) (x : Result Unit Refusal) : Type 0 where
   pub at : ℕ
   pub within : at < length cs
   pub before : (j : ℕ) → j < at → RemovesAt R cs j done
@@ -45,18 +42,11 @@ pub record FirstRefused (R : Steps) (cs : List Pair) (x : Removed) : Type 0 wher
   pub refusal : answer ≢ done
 
 -- what is found of the loops one by one: the first refusal, or that each goes, and what is in their bodies
-pub record RulingOf (R : Steps) (cs : List Pair) (r : Ruling) : Type 0 where
-  pub first : is_done r.said ≡ false → FirstRefused R cs r.said
-  pub each : is_done r.said ≡ true → EachGoes R cs
-  pub bodies : is_done r.said ≡ true → Members (InSomeBody R cs (length cs)) r.bodies
+pub data RulingOf (R : Steps) (cs : List Pair) : Result Set Refusal → Type 0 where
+  refused : {p : Refusal} → FirstRefused R cs (Err p) → RulingOf R cs (Err p)
+  gone : {bodies : Set} → EachGoes R cs → Members (InSomeBody R cs (length cs)) bodies → RulingOf R cs (Ok bodies)
 
 -- the answer is the rule's
-abbrev pub RuledTogether : (b labels loops standing : List ℕ) → Together → Type 0
+abbrev pub RuledTogether : (b labels loops standing : List ℕ) → Result Unit Refusal → Type 0
 RuledTogether b labels loops standing r =
     (g : GroupAnswer) × (r ≡ together_as g) × RemovesTogether (StandingOf b labels standing) (loops_of loops) g
-
--- nothing is refused
-abbrev pub is_all_done : Together → Bool
-is_all_done (Removal a) = is_done a
-is_all_done LoopList = false
-is_all_done (StartInside p) = false

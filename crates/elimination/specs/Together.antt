@@ -1,14 +1,15 @@
 -- Taking out several loops together (document 02, C-12), as tests that run: the answer, and the standing bytes after
 -- the call.
-use Rattle.std.specs.Prelude.{ℕ, ◌%◌, Bool, false, cond, ◌&&◌, ◌||◌, not, List, [], ◌∷◌, eqb, leb, length}
+use Rattle.std.specs.Prelude.{ℕ, ◌%◌, Bool, false, cond, ◌&&◌, ◌||◌, not, List, [], ◌∷◌, eqb, leb, length, Result, Err}
 use Rattle.theory.specs.Tests.{some_in}
 use Rattle.theory.specs.Orders.{Pair}
 use Rattle.theory.specs.MultiSteps.{GroupAnswer, single, refused_57}
 use Rattle.theory.specs.RemovalTests.{group_answer}
-use Rattle.report.specs.declared.Together.{Together}
-use Rattle.report.specs.declared.Together.TheVariants.{Removal, LoopList, StartInside}
+use Rattle.report.specs.declared.Refusal.{Refusal}
+use Rattle.report.specs.declared.Refusal.TheVariants.{StartInside, LoopList}
 use Rattle.chart.specs.Bodies.{vertices_of}
-use Rattle.elimination.specs.Removals.{removed_as, when_done, on_fits, stands_test, cleared_from}
+use Rattle.report.specs.Stages.{when_done}
+use Rattle.elimination.specs.Removals.{removed_as, on_fits, stands_test, cleared_from}
 
 -- the loops of a list of bytes, two each: the start, then the level
 unfoldable pub loops_of : List ℕ → List Pair
@@ -26,25 +27,19 @@ unfoldable pub loop_list_test : List ℕ → Bool
 loop_list_test loops = eqb (length loops % 2) 0 && (leb (length loops) 128 && not (twice_test (loops_of loops)))
 
 -- document 02's answer for each answer of the rule
-abbrev pub together_as : GroupAnswer → Together
-together_as (single a) = Removal (removed_as a)
-together_as (refused_57 p) = StartInside p
-
--- one list where it is done, the other where it is refused
-abbrev pub when_all_done : Together → List ℕ → List ℕ → List ℕ
-when_all_done (Removal a) cleared kept = when_done a cleared kept
-when_all_done LoopList cleared kept = kept
-when_all_done (StartInside p) cleared kept = kept
+abbrev pub together_as : GroupAnswer → Result Unit Refusal
+together_as (single a) = removed_as a
+together_as (refused_57 p) = Err (StartInside p)
 
 module _ (b labels : List ℕ) where
   -- 51, 52 and 57
-  unfoldable pub group_of : List Pair → List ℕ → Together
+  unfoldable pub group_of : List Pair → List ℕ → Result Unit Refusal
   group_of cs standing = together_as (group_answer (stands_test b labels standing) (vertices_of b) 256 cs)
 
   -- the answer to taking out the loops of a list: 20, 21, 30, 50, 56, 51, 52, 57
-  unfoldable pub together_of : (loops standing : List ℕ) → Together
-  together_of loops standing = on_fits b labels standing Removal
-      (cond (loop_list_test loops) (group_of (loops_of loops) standing) LoopList)
+  unfoldable pub together_of : (loops standing : List ℕ) → Result Unit Refusal
+  together_of loops standing = on_fits b labels standing
+      (cond (loop_list_test loops) (group_of (loops_of loops) standing) (Err LoopList))
 
   -- the bytes with 0 for each entry of each loop of a list
   unfoldable pub cleared_all : List Pair → List ℕ → List ℕ
@@ -53,4 +48,4 @@ module _ (b labels : List ℕ) where
 
   -- the standing bytes after the call: the entries of all loops become 0 where it is done
   unfoldable pub left_together : (loops standing : List ℕ) → List ℕ
-  left_together loops standing = when_all_done (together_of loops standing) (cleared_all (loops_of loops) standing) standing
+  left_together loops standing = when_done (together_of loops standing) (cleared_all (loops_of loops) standing) standing

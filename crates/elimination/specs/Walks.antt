@@ -1,10 +1,13 @@
 -- What the walk through the chart of a loop finds, and what it goes by.
-use Rattle.std.specs.Prelude.{ℕ, ◌<◌, ◌≡◌, ◌≢◌, ◌⊎◌, ◌↔◌, true, false, List, length, get_or}
+use Rattle.std.specs.Prelude.{ℕ, ◌<◌, ◌≡◌, ◌≢◌, ◌⊎◌, ◌↔◌, List, length, get_or, Option, Some, None, Result, Ok, Err}
 use Rattle.theory.specs.Paths.{Edges, Star, Endless, Avoid}
 use Rattle.theory.specs.LoopCharts.{Reached, Stray}
 use Rattle.bits.specs.declared.sets.Set.{Set}
 use Rattle.bits.specs.Sets.{Has}
-use Rattle.bits.specs.Tables.{row_of, HasRow}
+use Rattle.bits.specs.Tables.{HasRow}
+use Rattle.report.specs.declared.Refusal.{Refusal}
+use Rattle.report.specs.declared.Refusal.TheVariants.{NotLoop}
+use Rattle.elimination.specs.Loops.{Broken, Unbroken}
 use Rattle.elimination.specs.declared.walk.Found.{Found}
 use Rattle.elimination.specs.declared.walk.Stops.{Stops}
 
@@ -17,51 +20,62 @@ pub record RowsOf (E : Edges) (read : Set) (a : List ℕ) : Type 0 where
   pub long : length a ≡ 256
   pub exactly : (x y : ℕ) → Has read x → y < 128 → HasRow a x y ↔ E x y
 
--- set w of the table has come to be what E leads to from w, and the others stay
-pub record RowRead (E : Edges) (w : ℕ) (before after : List ℕ) : Type 0 where
-  pub long : length after ≡ 256
-  pub here : (y : ℕ) → y < 128 → HasRow after w y ↔ E w y
-  pub others : (x : ℕ) → x ≢ w → row_of after x ≡ row_of before x
-
--- y is not past, and follows the last vertex of a path of `depth` vertices, which stand from entry 1 on; where there is
--- none, it is a target
-pub record Onward (a path : List ℕ) (depth : ℕ) (targets past : Set) (y : ℕ) : Type 0 where
+-- y is not past, and E leads to it from the last vertex of a path of `depth` vertices, which stand from entry 1 on; where
+-- there is none, it is a target
+pub record Onward (E : Edges) (path : List ℕ) (depth : ℕ) (targets past : Set) (y : ℕ) : Type 0 where
   pub left : ¬ Has past y
   pub first : depth ≡ 0 → Has targets y
-  pub follows : 0 < depth → HasRow a (get_or path depth 0) y
+  pub follows : 0 < depth → E (get_or path depth 0) y
 
--- what is known of the vertices that are past, for walks that stop at v: from none a path goes on for ever that does
--- not leave v, they lead to none that is not past, and those of `back` lead to v
-pub record Settled (v : ℕ) (E : Edges) (past back : Set) : Type 0 where
-  pub stop : Has past v
-  pub gone : (x : ℕ) → Has past x → x ≢ v → ¬ Endless (Avoid v E) x
-  pub closed : (x y : ℕ) → Has past x → x ≢ v → E x y → Has past y
-  pub back_past : (x : ℕ) → Has back x → Has past x
-  pub leads_back : (x : ℕ) → Has past x → Has back x ↔ Star (Avoid v E) x v
+-- what is known of the vertices that are past: from none a path goes on for ever that does not leave the vertex where
+-- walks stop, they lead to none that is not past, and those of `back` lead to where walks stop
+pub record Settled (E : Edges) (s : Stops) : Type 0 where
+  pub stop : Has s.past s.at
+  pub gone : (x : ℕ) → Has s.past x → x ≢ s.at → ¬ Endless (Avoid s.at E) x
+  pub closed : (x y : ℕ) → Has s.past x → x ≢ s.at → E x y → Has s.past y
+  pub back_past : (x : ℕ) → Has s.back x → Has s.past x
+  pub leads_back : (x : ℕ) → Has s.past x → Has s.back x ↔ Star (Avoid s.at E) x s.at
 
--- what is found of a loop at v with these entries and other transitions, where what is past was settled: of its body
--- all that is not past
-pub record FoundIn (v : ℕ) (Entry : ℕ → Type 0) (Other : Edges) (past : Set) (r : Found) : Type 0 where
-  pub stray : r.stray ≡ true → Stray v Entry Other
-  pub none : r.stray ≡ false → ¬ Stray v Entry Other
-  pub sound : r.stray ≡ false → (w : ℕ) → Has r.body w → Reached v Entry Other w
-  pub all : r.stray ≡ false → (w : ℕ) → Reached v Entry Other w → Has r.body w ⊎ Has past w
-  pub returns : r.stray ≡ false → Meets r.body r.back ↔ Reached v Entry Other v
-  pub settled : r.stray ≡ false → Settled v Other r.past r.back
-  pub grown : r.stray ≡ false → (w : ℕ) → Has r.past w → Has past w ⊎ Has r.body w
+-- walks stop at v, and nothing else is past
+pub record Alone (v : ℕ) (s : Stops) : Type 0 where
+  pub at : s.at ≡ v
+  pub past : (y : ℕ) → Has s.past y ↔ (y ≡ v)
+  pub back : (y : ℕ) → Has s.back y ↔ (y ≡ v)
 
--- the first of L1, L2, L3 that is broken by what is found of a loop, or 0
-pub data BrokenBy (found : Found) : ℕ → Type 0 where
-  found_none : found.stray ≡ false → Meets found.body found.back → ¬ Has found.body 0 → BrokenBy found 0
-  found_first : found.stray ≡ false → ¬ Meets found.body found.back → BrokenBy found 1
-  found_second : found.stray ≡ true → BrokenBy found 2
-  found_third : found.stray ≡ false → Meets found.body found.back → Has found.body 0 → BrokenBy found 3
+-- what stays settled when walks stop at v and no longer where they did: all where it is the same vertex; else what does
+-- not lead to where they did, where v is not among it; else nothing but v
+pub data StopsAt (v : ℕ) (before s : Stops) : Type 0 where
+  same : v ≡ before.at → s ≡ before → StopsAt v before s
+  apart : s.at ≡ v → ¬ (Has before.past v × ¬ Has before.back v)
+      → ((y : ℕ) → Has s.past y ↔ ((Has before.past y × ¬ Has before.back y) ⊎ (y ≡ v))) → ((y : ℕ) → Has s.back y ↔ (y ≡ v))
+      → StopsAt v before s
+  fresh : Alone v s → StopsAt v before s
 
--- what stays settled when walks stop at v and no longer at `last`: all where it is the same vertex; else what does not
--- lead to `last`, where v is not among it; else nothing but v
-pub data StopsAt (v last : ℕ) (past back : Set) (r : Stops) : Type 0 where
-  same : v ≡ last → r.past ≡ past → r.back ≡ back → StopsAt v last past back r
-  apart : ¬ (Has past v × ¬ Has back v)
-      → ((y : ℕ) → Has r.past y ↔ ((Has past y × ¬ Has back y) ⊎ (y ≡ v))) → ((y : ℕ) → Has r.back y ↔ (y ≡ v))
-      → StopsAt v last past back r
-  fresh : ((y : ℕ) → Has r.past y ↔ (y ≡ v)) → ((y : ℕ) → Has r.back y ↔ (y ≡ v)) → StopsAt v last past back r
+-- what a walk finds of a loop with these entries and other transitions, which starts where walks stop and has no cycle
+-- aside: of its body all that was not past
+pub record Walked (Entry : ℕ → Type 0) (Other : Edges) (before : Stops) (found : Found) : Type 0 where
+  pub same : found.stops.at ≡ before.at
+  pub none : ¬ Stray before.at Entry Other
+  pub sound : (w : ℕ) → Has found.body w → Reached before.at Entry Other w
+  pub all : (w : ℕ) → Reached before.at Entry Other w → Has found.body w ⊎ Has before.past w
+  pub returns : Meets found.body found.stops.back ↔ Reached before.at Entry Other before.at
+  pub settled : Settled Other found.stops
+  pub grown : (w : ℕ) → Has found.stops.past w → Has before.past w ⊎ Has found.body w
+
+-- what a walk finds, or that there is a cycle aside
+pub data FoundIn (Entry : ℕ → Type 0) (Other : Edges) (before : Stops) : Option Found → Type 0 where
+  aside : Stray before.at Entry Other → FoundIn Entry Other before None
+  whole : {found : Found} → Walked Entry Other before found → FoundIn Entry Other before (Some found)
+
+-- which of L1, L2, L3 is broken first, by what a walk finds: 2 where it finds none, and else by what of the body leads back,
+-- and by whether the end is in it
+pub data BrokenBy : Option Found → ℕ → Type 0 where
+  found_first : {found : Found} → ¬ Meets found.body found.stops.back → BrokenBy (Some found) 1
+  found_second : BrokenBy None 2
+  found_third : {found : Found} → Meets found.body found.stops.back → Has found.body 0 → BrokenBy (Some found) 3
+
+-- 52 of a loop with the level l: the first of L1, L2, L3 that is broken; or what a walk finds, where none is
+pub data Judged (Entry : ℕ → Type 0) (Other : Edges) (before : Stops) (l : ℕ) : Result Found Refusal → Type 0 where
+  passed : {found : Found} → Unbroken before.at Entry Other → Walked Entry Other before found
+      → Judged Entry Other before l (Ok found)
+  refused : {r : ℕ} → Broken before.at Entry Other r → Judged Entry Other before l (Err (NotLoop before.at l r))

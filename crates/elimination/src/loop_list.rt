@@ -1,25 +1,30 @@
 // A list of loops in bytes, two a loop: its start, then its level. Places count loops, from 0.
-ghost use Rattle.std.specs.Prelude.{◌≡◌, true, ◌↔◌, ℕ, ◌+◌, ◌*◌, ◌/◌, ◌<◌, length};
-ghost use Rattle.bits.specs.First.{First};
+ghost use Rattle.std.specs.Prelude.{◌≡◌, true, ◌↔◌, ℕ, ◌+◌, ◌*◌, ◌/◌, ◌<◌, length, MatchOption};
+ghost use Rattle.theory.specs.Least.{Least};
 ghost use Rattle.bits.specs.Sets.{Has};
 ghost use Rattle.elimination.specs.TogetherAnswers.{LoopListFits};
-ghost use Rattle.elimination.specs.LoopLists.{start_at, StandsBefore};
+ghost use Rattle.elimination.specs.LoopLists.{start_at, level_at, StandsBefore};
 
 use bits::{Set, byte};
+
+// The start and the level of the loop at place i.
+pub(crate) fn loop_at(loops: &[u8], i: usize) -> (usize, usize)
+    requires { 2 * i + 1 < length loops.now }
+    ensures { (result.0 ≡ start_at loops.now i) × (result.1 ≡ level_at loops.now i) }
+{
+    (byte(loops, 2 * i), byte(loops, 2 * i + 1))
+}
 
 // Whether the loop at place i stands at an earlier place too.
 fn stands_before(loops: &[u8], i: usize) -> bool
     requires { 2 * i + 1 < length loops.now }
     ensures { (result ≡ true) ↔ StandsBefore loops.now i }
 {
-    let start = byte(loops, 2 * i);
-    let level = byte(loops, 2 * i + 1);
-    let mut j: usize = 0;
-    while j < i {
-        if (byte(loops, 2 * j) == start) & (byte(loops, 2 * j + 1) == level) {
+    let here = loop_at(loops, i);
+    for j in 0..i {
+        if loop_at(loops, j) == here {
             return true;
         }
-        j += 1;
     }
     false
 }
@@ -32,28 +37,23 @@ pub(crate) fn list_fits(loops: &[u8]) -> bool
     if (n % 2 != 0) | (n > 128) {
         return false;
     }
-    let mut i: usize = 0;
-    while i < n / 2 {
+    for i in 0..n / 2 {
         if stands_before(loops, i) {
             return false;
         }
-        i += 1;
     }
     true
 }
 
-// The lowest place of a loop whose start is in the set, or the number of loops.
-pub(crate) fn start_in(loops: &[u8], set: Set) -> usize
-    ensures { First (λ (i : ℕ). Has set (start_at loops.now i)) 0
-        (length loops.now / 2) result }
+// The lowest place of a loop whose start is in the set, if there is one.
+pub(crate) fn start_in(loops: &[u8], set: Set) -> Option<usize>
+    ensures { MatchOption result ((i : ℕ) → i < length loops.now / 2 → ¬ Has set (start_at loops.now i))
+        (λ p. (p < length loops.now / 2) × Least (λ (i : ℕ). Has set (start_at loops.now i)) p) }
 {
-    let n = loops.len() / 2;
-    let mut i: usize = 0;
-    while i < n {
-        if set.contains(byte(loops, 2 * i)) {
-            return i;
+    for i in 0..loops.len() / 2 {
+        if set.contains(loop_at(loops, i).0) {
+            return Some(i);
         }
-        i += 1;
     }
-    n
+    None
 }

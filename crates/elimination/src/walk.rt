@@ -1,163 +1,189 @@
-// The walk through the chart of a loop.
-ghost use Rattle.std.specs.Prelude.{◌≡◌, ◌↔◌, ℕ, ◌≤◌, ◌<◌, length, get_or};
-ghost use Rattle.bits.specs.Sets.{Has, Members};
+// The walks through the charts of loops.
+ghost use Rattle.std.specs.Prelude.{◌≡◌, ◌⊎◌, ◌↔◌, ℕ, ◌≤◌, ◌<◌, length, get_or};
+ghost use Rattle.bits.specs.Sets.{Has, empty_set, Members};
 ghost use Rattle.chart.specs.Bodies.{count_of};
-ghost use Rattle.chart.specs.Checks.{check_of};
-ghost use Rattle.chart.specs.Leaving.{Begins};
 ghost use Rattle.chart.specs.Steps.{Kept};
-ghost use Rattle.elimination.specs.Walks.{RowsOf, RowRead, Onward, Settled, FoundIn, StopsAt};
+ghost use Rattle.elimination.specs.Walks.{RowsOf, Onward, Settled, Alone, StopsAt, FoundIn, Judged};
 
 use bits::Set;
 use bits::tables::{put_row, row};
-use chart::kept_row;
-use report::Stage;
+use chart::Chart;
+use report::Refusal;
 
-// The vertices that are past, for walks that stop at a vertex, and those of them that lead to it.
+// The vertex where walks stop, the vertices that are past, and those of them that lead to where walks stop.
 #[derive(Clone, Copy)]
 pub struct Stops {
+    pub at: usize,
     pub past: Set,
     pub back: Set,
 }
 
-// Whether a cycle aside of the loop's start is reached, and where none is, of the body all that was not past; the
-// vertices that are past now, and those of them that lead to the start; and the vertices whose transitions are in the
-// table.
-#[derive(Clone, Copy)]
-pub struct Found {
-    pub stray: bool,
-    pub body: Set,
-    pub past: Set,
-    pub back: Set,
-    pub read: Set,
-}
-
-// At first v alone is past.
-pub(crate) fn stops_fresh(v: usize) -> Stops
-    requires { v < 128 }
-    ensures { ((y : ℕ) → Has result.past y ↔ (y ≡ v)) × ((y : ℕ) → Has result.back y ↔ (y ≡ v)) }
-{
-    let own = Set::empty().with(v);
-    Stops {
-        past: own,
-        back: own,
-    }
-}
-
-// What stays past when walks stop at v and no longer at `last`.
-pub(crate) fn stops_at(v: usize, last: usize, past: Set, back: Set) -> Stops
-    requires { v < 128 }
-    ensures { StopsAt v last past back result }
-{
-    if v == last {
-        return Stops { past, back };
-    }
-    let rest = past.difference(back);
-    if rest.contains(v) {
-        return stops_fresh(v);
-    }
-    Stops {
-        past: rest.with(v),
-        back: Set::empty().with(v),
-    }
-}
-
-// The standing transitions of w come into its set of the table, unless they were read before.
-fn read_row(
-    chart: &[u8],
-    standing: &[u8],
-    begins: &[usize; 129],
-    w: usize,
-    read: Set,
-    next: &mut [u64; 256],
-)
-    requires { (check_of chart.now ≡ Stage.Passed)
-        × (count_of chart.now ≤ length standing.now)
-        × Begins chart.now begins.now
-        × (w < 128)
-        × RowsOf (Kept chart.now standing.now) read next.old }
-    ensures { RowRead (Kept chart.now standing.now) w
-        next.old next.new }
-{
-    if read.contains(w) {
-        return;
-    }
-    put_row(next, w, kept_row(chart, standing, begins, w));
-}
-
-// What follows the last vertex of a path and is not past; where the path has none, the targets that are not.
-fn onward(next: &[u64; 256], path: &[usize; 130], depth: usize, targets: Set, past: Set) -> Set
-    requires { (length next.now ≡ 256)
-        × (length path.now ≡ 130)
-        × (depth < 130)
-        × (0 < depth → get_or path.now depth 0 < 128) }
-    ensures { Members (Onward next.now path.now depth targets past) result }
-{
-    if depth == 0 {
-        return targets.difference(past);
-    }
-    let followed = row(next, path[depth]);
-    followed.difference(past)
-}
-
-// Goes through the chart of a loop at v whose entries lead to the targets: forward to any vertex that is not past; one
-// that leads to none of these is past from then on, and the path goes back by one vertex. A path of 129 vertices has
-// one of them twice. The table has the transitions of the vertices of `read`, and gets those of the vertices that the
-// walk comes to.
-pub(crate) fn walk(
-    chart: &[u8],
-    standing: &[u8],
-    begins: &[usize; 129],
-    v: usize,
-    targets: Set,
-    read: Set,
-    past: Set,
-    back: Set,
-    next: &mut [u64; 256],
-) -> Found
-    requires { (check_of chart.now ≡ Stage.Passed)
-        × (count_of chart.now ≤ length standing.now)
-        × Begins chart.now begins.now
-        × Settled v (Kept chart.now standing.now) past back
-        × RowsOf (Kept chart.now standing.now) read next.old }
-    ensures { FoundIn v (Has targets) (Kept chart.now standing.now) past result
-        × RowsOf (Kept chart.now standing.now) result.read next.new }
-{
-    let mut read = read;
-    let mut past = past;
-    let mut back = back;
-    let mut body = targets;
-    let mut path = [0usize; 130];
-    let mut depth: usize = 0;
-    while depth < 129 {
-        let w = onward(next, &path, depth, targets, past).lowest();
-        if w < 128 {
-            read_row(chart, standing, begins, w, read, next);
-            read = read.with(w);
-            body = body.union(row(next, w));
-            depth += 1;
-            path[depth] = w;
-        } else {
-            if depth == 0 {
-                return Found {
-                    stray: false,
-                    body,
-                    past,
-                    back,
-                    read,
-                };
-            }
-            let left = path[depth];
-            let leads = row(next, left).intersection(back);
-            back = back.with_if(left, !leads.is_empty());
-            past = past.with(left);
-            depth -= 1;
+impl Stops {
+    // At first v alone is past.
+    pub(crate) fn new(v: usize) -> Stops
+        requires { v < 128 }
+        ensures { Alone v result }
+    {
+        let own = Set::empty().with(v);
+        Stops {
+            at: v,
+            past: own,
+            back: own,
         }
     }
-    Found {
-        stray: true,
-        body,
-        past,
-        back,
-        read,
+
+    // What stays past when walks stop at v.
+    pub(crate) fn moved_to(self, v: usize) -> Stops
+        requires { v < 128 }
+        ensures { StopsAt v self result }
+    {
+        if v == self.at {
+            return self;
+        }
+        let rest = self.past.difference(self.back);
+        if rest.contains(v) {
+            return Stops::new(v);
+        }
+        Stops {
+            at: v,
+            past: rest.with(v),
+            back: Set::empty().with(v),
+        }
+    }
+}
+
+// What a walk has found: of the body of a loop all that was not past, and what is past now.
+#[derive(Clone, Copy)]
+pub struct Found {
+    pub body: Set,
+    pub stops: Stops,
+}
+
+// The standing transitions of a chart as a table of sets, of which those of the vertices in `read` are there.
+#[derive(Drop)]
+pub struct Rows<'a> {
+    pub chart: &'a Chart<'a>,
+    pub standing: &'a [u8],
+    pub table: [u64; 256],
+    pub read: Set,
+    pub ghost long: { count_of chart.now.body.now ≤ length standing.now },
+    pub ghost rows: { ∥ RowsOf (Kept chart.now.body.now standing.now) read table ∥₁ },
+}
+
+impl<'a> Rows<'a> {
+    // None is read.
+    pub(crate) fn new(chart: &'a Chart<'a>, standing: &'a [u8]) -> Rows<'a>
+        requires { count_of chart.now.body.now ≤ length standing.now }
+        ensures { (result.chart.now.body.now ≡ chart.now.body.now)
+            × (result.standing.now ≡ standing.now)
+            × (result.read ≡ empty_set) }
+    {
+        Rows {
+            chart,
+            standing,
+            table: [0; 256],
+            read: Set::empty(),
+        }
+    }
+
+    // The set of w comes into the table, unless it is there.
+    fn read_row(&mut self, w: usize)
+        requires { w < 128 }
+        ensures { (self.new.chart.now.body.now ≡ self.old.chart.now.body.now)
+            × (self.new.standing.now ≡ self.old.standing.now)
+            × ((y : ℕ) → Has self.new.read y ↔ (Has self.old.read y ⊎ (y ≡ w))) }
+    {
+        if self.read.contains(w) {
+            return;
+        }
+        let targets = self.chart.kept(self.standing, w);
+        put_row(&mut self.table, w, targets);
+        self.read = self.read.with(w);
+    }
+
+    // What the standing transitions of w lead to, which is read.
+    fn row(&self, w: usize) -> Set
+        requires { Has self.now.read w }
+        ensures { Members (Kept self.now.chart.now.body.now self.now.standing.now w) result }
+    {
+        row(&self.table, w)
+    }
+
+    // What follows the last vertex of a path and is not past; where the path has none, the targets that are not.
+    fn onward(&self, path: &[usize; 130], depth: usize, targets: Set, past: Set) -> Set
+        requires { (depth < 130) × (0 < depth → Has self.now.read (get_or path.now depth 0)) }
+        ensures { Members
+            (Onward (Kept self.now.chart.now.body.now self.now.standing.now) path.now depth targets past) result }
+    {
+        if depth == 0 {
+            return targets.difference(past);
+        }
+        self.row(path[depth]).difference(past)
+    }
+
+    // Goes through the chart of a loop whose entries lead to the targets, and which starts where the walk stops: forward
+    // to any vertex that is not past; one that leads to none of these is past from then on, and the path goes back by one
+    // vertex. A path of 129 vertices has one of them twice: a cycle aside of the loop's start, and nothing is found.
+    fn walk(&mut self, targets: Set, stops: Stops) -> Option<Found>
+        requires { Settled (Kept self.old.chart.now.body.now self.old.standing.now) stops }
+        ensures { (self.new.chart.now.body.now ≡ self.old.chart.now.body.now)
+            × (self.new.standing.now ≡ self.old.standing.now)
+            × FoundIn (Has targets) (Kept self.old.chart.now.body.now self.old.standing.now) stops result }
+    {
+        let mut past = stops.past;
+        let mut back = stops.back;
+        let mut body = targets;
+        let mut path = [0usize; 130];
+        // a `while`: the path goes on and back
+        let mut depth: usize = 0;
+        while depth < 129 {
+            let w = self.onward(&path, depth, targets, past).lowest();
+            if w < 128 {
+                self.read_row(w);
+                body = body.union(self.row(w));
+                depth += 1;
+                path[depth] = w;
+            } else {
+                if depth == 0 {
+                    let stops = Stops {
+                        at: stops.at,
+                        past,
+                        back,
+                    };
+                    return Some(Found { body, stops });
+                }
+                let left = path[depth];
+                let leads = self.row(left).intersection(back);
+                back = back.with_if(left, !leads.is_empty());
+                past = past.with(left);
+                depth -= 1;
+            }
+        }
+        None
+    }
+
+    // 52 of a loop with this level that starts where walks stop: the first of L1, L2, L3 that its chart breaks, or what is
+    // found of it.
+    pub(crate) fn judge(
+        &mut self,
+        targets: Set,
+        level: usize,
+        stops: Stops,
+    ) -> Result<Found, Refusal>
+        requires { Settled (Kept self.old.chart.now.body.now self.old.standing.now) stops × (¬ Has stops.past 0) }
+        ensures { (self.new.chart.now.body.now ≡ self.old.chart.now.body.now)
+            × (self.new.standing.now ≡ self.old.standing.now)
+            × Judged (Has targets) (Kept self.old.chart.now.body.now self.old.standing.now) stops level result }
+    {
+        let Some(found) = self.walk(targets, stops) else {
+            return Err(Refusal::NotLoop(stops.at, level, 2));
+        };
+        if found.body.intersection(found.stops.back).is_empty() {
+            return Err(Refusal::NotLoop(stops.at, level, 1));
+        }
+        if found.body.contains(0) {
+            return Err(Refusal::NotLoop(stops.at, level, 3));
+        }
+        Ok(found)
     }
 }
