@@ -312,15 +312,15 @@ module _ {b labels : List ℕ} (i : ℕ) (high : i < count_of b) {f l t : ℕ}
   }
 
 -- room for n vertices and the levels up to top, in tables of zeros
-pub room_by : (size levels : ℕ) {n top : ℕ} → n ≤ size → top < levels
-    → Room NoSteps n top (replicate (2 * size) 0) (replicate (2 * size) 0) (replicate (2 * size) 0) (replicate (2 * levels) 0)
-room_by size levels {n} {top} i j = record {
+pub room_by : {size levels vs ls n top : ℕ} → vs ≡ 2 * size → ls ≡ 2 * levels → n ≤ size → top < levels
+    → Room NoSteps n top (replicate vs 0) (replicate vs 0) (replicate vs 0) (replicate ls 0)
+room_by {size} {levels} {vs} {ls} {n} {top} e f i j = rw (e, f) (record {
   collected = collected_none size levels;
   for_next = omega (arith, i, long);
   for_branches = omega (arith, i, long);
   for_entries = omega (arith, i, long);
   for_levels = omega (arith, j, length-replicate {A = ℕ} (2 * levels) 0);
-}
+})
   where
     long : length (replicate {A = ℕ} (2 * size) 0) ≡ 2 * size
     long = length-replicate {A = ℕ} (2 * size) 0

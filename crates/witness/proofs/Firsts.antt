@@ -2,7 +2,7 @@
 use mathlib.Core.Path.{◌≡◌}
 use mathlib.Core.Logic.{by_cases, ◌↔◌}
 use mathlib.Core.List.{List}
-use Prim.Native.Nat.{ℕ, ◌+◌, ◌*◌, ◌/◌, ◌%◌, ◌≤◌, ◌<◌}
+use Prim.Native.Nat.{ℕ, ◌+◌, ◌-◌, ◌*◌, ◌/◌, ◌%◌, ◌≤◌, ◌<◌}
 use native.Mathlib.Decide.{dec_lt}
 use native.Mathlib.Omega.{arith}
 use lib.ListN.{get_or}
@@ -37,27 +37,27 @@ level_word a l =
     let s = same_bit a {i = 2 * (l / 128) + l % 128 / 64} {j = l / 64} {k = l % 128 % 64} {m = l % 64} (omega arith) (omega arith) in
     (λ h. s.0 (r.0 h), λ h. r.1 (s.1 h))
 
--- none from `from` up to l is one; the word of l has the lowest bit from l on at `bit`
-module _ (a : List ℕ) {from l bit : ℕ} (none : (k : ℕ) → from ≤ k → k < l → ¬ IsLevel a k)
-    (F : First (On (get_or a (l / 64) 0)) (l % 64) 64 bit) where
-  pub level_past : (k : ℕ) → from ≤ k → k < 64 * (l / 64) + bit → ¬ IsLevel a k
+-- none from `from` up to word k is one; that word has at `bit` the lowest bit from there on
+module _ (a : List ℕ) {from : ℕ} (w : ℕ) {bit : ℕ} (none : (k : ℕ) → from ≤ k → k < 64 * w → ¬ IsLevel a k)
+    (F : First (On (get_or a w 0)) (from - 64 * w) 64 bit) where
+  pub level_past : (k : ℕ) → from ≤ k → k < 64 * w + bit → ¬ IsLevel a k
   level_past k g h q =
-      by_cases (dec_lt k l)
+      by_cases (dec_lt k (64 * w))
       (λ m. none k g m q)
       (λ m.
-      let e : k / 64 ≡ l / 64 = omega (arith, F.within) in
+      let e : k / 64 ≡ w = omega (arith, F.within) in
       F.before (k % 64) (omega arith) (omega arith) (rw e at ((level_word a k).0 q)))
 
-  pub level_found : from ≤ l → l < 256 → bit < 64 → First (IsLevel a) from 256 (64 * (l / 64) + bit)
+  pub level_found : from < 64 * w + 64 → w < 4 → bit < 64 → First (IsLevel a) from 256 (64 * w + bit)
   level_found g h m =
-      let e : (64 * (l / 64) + bit) / 64 ≡ l / 64 = omega arith in
-      let f : (64 * (l / 64) + bit) % 64 ≡ bit = omega arith in
+      let e : (64 * w + bit) / 64 ≡ w = omega arith in
+      let f : (64 * w + bit) % 64 ≡ bit = omega arith in
       record {
         from = omega (arith, F.from);
         within = omega arith;
-        holds = λ z. (level_word a (64 * (l / 64) + bit)).1 (rw (e, f) (F.holds m));
+        holds = λ z. (level_word a (64 * w + bit)).1 (rw (e, f) (F.holds m));
         before = level_past;
       }
 
-pub level_none : (a : List ℕ) {from l : ℕ} → ((k : ℕ) → from ≤ k → k < l → ¬ IsLevel a k) → from ≤ l → l ≡ 256 → First (IsLevel a) from 256 l
-level_none a none g e = record { from = g; within = omega arith; holds = λ z. absurd (omega arith); before = none }
+pub level_none : (a : List ℕ) {from : ℕ} → ((k : ℕ) → from ≤ k → k < 256 → ¬ IsLevel a k) → from ≤ 256 → First (IsLevel a) from 256 256
+level_none a none g = record { from = g; within = omega arith; holds = λ z. absurd (omega arith); before = none }

@@ -17,10 +17,9 @@ use Rattle.theory.proofs.Tests.{decided, decides_same, decides_and, decides_eqb,
 use Rattle.theory.proofs.Reachability.{decides_star}
 use Rattle.theory.proofs.LabellingTests.{decides_any, loops_listed, outcome_checked}
 use Rattle.theory.proofs.Outcomes.{one_outcome, passes_iff_witness}
-use Rattle.report.specs.declared.Labelled.{Labelled}
-use Rattle.report.specs.declared.Labelled.TheVariants.{Passed, Refused}
-use Rattle.report.specs.declared.Place.TheVariants as place
-use Rattle.report.specs.declared.Stage.TheVariants as stage
+use Rattle.std.specs.Prelude.{Result, Ok, Err}
+use Rattle.report.specs.declared.Refusal.{Refusal}
+use Rattle.report.specs.declared.Refusal.TheVariants as refusal
 use Rattle.bits.specs.Bits.{Bytes}
 use Rattle.chart.specs.Bodies.{vertices_of, start_of, count_of, from_of, to_of, WellFormed}
 use Rattle.chart.specs.Checks.{check_of}
@@ -67,12 +66,12 @@ module _ (b labels : List ℕ) (W : WellFormed b) (B : Bytes labels) where
   labelled_outcome e = labelled_checked e outcome_of
 
 -- 30: the labelling has another length
-pub labelled_long : (b labels : List ℕ) → length labels ≢ count_of b → labelled_of b labels ≡ Refused (place.LabelsLength (length labels))
+pub labelled_long : (b labels : List ℕ) → length labels ≢ count_of b → labelled_of b labels ≡ Err (refusal.LabelsLength (length labels))
 unfolding labelled_of
 labelled_long b labels h = rw (ne_eqb (length labels) (count_of b) h)
 
 -- THE THEOREMS, for a chart body that 20 and 21 let pass
-module _ (b labels : List ℕ) (checked : check_of b ≡ stage.Passed) (B : Bytes labels) where
+module _ (b labels : List ℕ) (checked : check_of b ≡ Ok tt) (B : Bytes labels) where
   well : WellFormed b
   well = well_formed b checked
 
@@ -111,10 +110,10 @@ module _ (b labels : List ℕ) (checked : check_of b ≡ stage.Passed) (B : Byte
   loop_answer f x =
       labelled_checked b labels well B f.long (fails_loop f.reaches f.acyclic f.is_loop f.earlier x)
 
-  answer_labelled : {a : Labelled} → LabellingAnswer b labels a → labelled_of b labels ≡ a
+  answer_labelled : {a : Result ℕ Refusal} → LabellingAnswer b labels a → labelled_of b labels ≡ a
   answer_labelled (passed xs h c w all) =
       labelled_checked b labels well B h ((passes_iff_witness (steps_formed b labels well) (start_of b)).1 (c, w))
-      ∙ ap Passed (sym (loops_number xs all))
+      ∙ ap Ok (sym (loops_number xs all))
   answer_labelled (other_length h) = labelled_long b labels h
   answer_labelled (unreached_at h p) = labelled_checked b labels well B h (fails_31 p)
   answer_labelled (cycle_at h c p) = labelled_checked b labels well B h (fails_32 c p)
@@ -123,29 +122,29 @@ module _ (b labels : List ℕ) (checked : check_of b ≡ stage.Passed) (B : Byte
   answer_labelled (not_lower_at f x y r) = loop_answer f (fails_35 x y r)
 
   -- EACH ANSWER, with its place, stands exactly where what it says holds
-  pub labelled_says : (a : Labelled) → (labelled_of b labels ≡ a) ↔ LabellingAnswer b labels a
+  pub labelled_says : (a : Result ℕ Refusal) → (labelled_of b labels ≡ a) ↔ LabellingAnswer b labels a
   labelled_says a = ((λ e. subst (LabellingAnswer b labels) e labelled_answer), answer_labelled)
 
-  pub labelled_loops : (n : ℕ) → labelled_of b labels ≡ Passed n
+  pub labelled_loops : (n : ℕ) → labelled_of b labels ≡ Ok n
       → (xs : List (ℕ × ℕ)) × AllLoops (StepsOf b labels) xs × (length xs ≡ n)
-  labelled_loops n e = loops ((labelled_says (Passed n)).0 e)
+  labelled_loops n e = loops ((labelled_says (Ok n)).0 e)
     where
-      loops : {m : ℕ} → LabellingAnswer b labels (Passed m)
+      loops : {m : ℕ} → LabellingAnswer b labels (Ok m)
           → (xs : List (ℕ × ℕ)) × AllLoops (StepsOf b labels) xs × (length xs ≡ m)
       loops (passed xs h c w all) = (xs, all, refl)
 
   -- a labelling that passes answers that number
-  pub labelled_number : (n : ℕ) → labelled_of b labels ≡ Passed n → n ≡ loops_of b labels
+  pub labelled_number : (n : ℕ) → labelled_of b labels ≡ Ok n → n ≡ loops_of b labels
   labelled_number n e = let (xs, all, h) = labelled_loops n e in sym h ∙ loops_number xs all
 
   -- A LABELLING PASSES EXACTLY WHEN it has a byte a transition, the chart is connected and it is a layered loop witness
-  pub labelled_iff_witness : ((n : ℕ) × (labelled_of b labels ≡ Passed n))
+  pub labelled_iff_witness : ((n : ℕ) × (labelled_of b labels ≡ Ok n))
       ↔ ((length labels ≡ count_of b) × Connected (vertices_of b) (StepsOf b labels) (start_of b) × Witness (StepsOf b labels) (start_of b))
   labelled_iff_witness = (
-    (λ (n, e). witness ((labelled_says (Passed n)).0 e)),
+    (λ (n, e). witness ((labelled_says (Ok n)).0 e)),
     (λ (h, c, w). (_, answer_labelled (passed _ h c w loops_all))),
   )
     where
-      witness : {m : ℕ} → LabellingAnswer b labels (Passed m)
+      witness : {m : ℕ} → LabellingAnswer b labels (Ok m)
           → (length labels ≡ count_of b) × Connected (vertices_of b) (StepsOf b labels) (start_of b) × Witness (StepsOf b labels) (start_of b)
       witness (passed xs h c w all) = (h, c, w)

@@ -2,7 +2,7 @@
 use mathlib.Core.Path.{◌≡◌, refl, sym, subst}
 use mathlib.Core.Logic.{◌≢◌, inl, inr, ⊎_elim, by_cases, ◌↔◌}
 use mathlib.Core.Bool.{Bool, true, false, false≢true}
-use mathlib.Core.List.{List}
+use mathlib.Core.List.{List, [], ◌∷◌, ◌++◌, Memᴰ}
 use Prim.Native.Nat.{ℕ, ◌+◌, ◌≤◌, ◌<◌}
 use native.Mathlib.Decide.{ℕ_discrete, dec_lt}
 use native.Mathlib.Omega.{arith}
@@ -14,17 +14,18 @@ use Rattle.theory.specs.Checks.{LoopPasses, no_return, end_inside, not_lower, No
 use Rattle.theory.proofs.Paths.{star_apart, star_cases, star_map, plus_map, plus_star, plus_snoc, plus_below}
 use Rattle.theory.proofs.Checks.{loop_to}
 use Rattle.theory.proofs.Rounds.{body_iff}
-use Rattle.report.specs.declared.Place.{Place}
-use Rattle.report.specs.declared.Place.TheVariants.{LoopNoReturn, LoopEndInside, LoopNotLower}
-use Rattle.report.specs.declared.Stage.{Stage}
-use Rattle.report.specs.declared.Stage.TheVariants.{Passed, Refused}
+use Rattle.std.specs.Prelude.{Result, Ok, Err}
+use Rattle.report.specs.declared.Refusal.{Refusal}
+use Rattle.report.specs.declared.Refusal.TheVariants.{LoopNoReturn, LoopEndInside, LoopNotLower}
 use Rattle.bits.specs.Bits.{Bytes}
 use Rattle.bits.specs.First.{First}
 use Rattle.bits.specs.declared.sets.Set.{Set}
 use Rattle.bits.specs.Sets.{Has, empty_set, Empty, Members, Intersection, Difference}
 use Rattle.bits.specs.Tables.{row_of, HasRow, TableOf}
 use Rattle.bits.proofs.Members.{none, has?}
-use Rattle.bits.proofs.Visits.{Visit}
+use Rattle.bits.specs.Listed.{members_of}
+use Rattle.bits.proofs.Listed.{member_listed}
+use Rattle.bits.proofs.Given.{one_more}
 use Rattle.chart.specs.Bodies.{vertices_of, WellFormed}
 use Rattle.reach.specs.Searches.{Leads, Closed, InOrFrom}
 use Rattle.chart.specs.Steps.{StepsOf}
@@ -135,7 +136,7 @@ module _ {b labels branches after entries low high : List ℕ} (W : WellFormed b
       -- what returns reaches only what is below the lowest level of v, and so do the others where nothing is asked of them
       pub vertex_passes_lem : {m : ℕ} {all : Bool} → m ≡ get_or low v 0 → m < 256 → Bytes labels → ReachesBelow branches high v m back
           → (all ≡ true → ReachesBelow branches high v m others) → EntriesPass all (StepsOf b labels) after high v
-          → VertexSaid (StepsOf b labels) v Passed
+          → VertexSaid (StepsOf b labels) v (Ok tt)
       vertex_passes_lem {m} e i bytes B O E l (some, w, s) =
           let (x, t, k) = E.returns l w some s in
           passes_free (comes t k) (λ u p. let (y, q, r) = (body_iff u).0 p in free u y q r (body_low p) (has? back y))
@@ -189,7 +190,7 @@ module _ {b labels branches after entries low high : List ℕ} (W : WellFormed b
             let t = leads_branch W T.of_branches 0 y (record { from = omega arith; has = g }) in
             omega (arith, ((steps_formed b labels W).from_vertex _ _ _ t).0)
 
-    pub lead_on_pass : m ≡ get_or low v 0 → m < 256 → Bytes labels → VertexSaid (StepsOf b labels) v Passed
+    pub lead_on_pass : m ≡ get_or low v 0 → m < 256 → Bytes labels → VertexSaid (StepsOf b labels) v (Ok tt)
     lead_on_pass e i bytes l o =
         let D : Difference (row_of entries v) (row_of entries v) empty_set = λ w. (λ g. absurd (none w g), λ (g, n). absurd (n g)) in
         let below : ReachesBelow branches high v m (row_of entries v) = (L.all, L.reached, on_below o.2) in
@@ -284,7 +285,7 @@ module _ {S : Steps} {v : ℕ} where
         };
       }
 
-    pub vertex_stop : {s : Stage} {p : Place} → s ≡ Refused p → level < 256 → LoopSaid S v level s → VertexSaid S v s
+    pub vertex_stop : {s : Result Unit Refusal} {p : Refusal} → s ≡ Err p → level < 256 → LoopSaid S v level s → VertexSaid S v s
     vertex_stop e h f = rw e (level, T.is_loop h, T.passed, rw e at f)
 
 -- the search goes on: what it has seen is closed, and then it has the body of this level too
@@ -324,16 +325,16 @@ module _ {b labels branches after entries low high : List ℕ} (W : WellFormed b
   }
 
 pub vertex_end : {b labels : List ℕ} {v level : ℕ} {seen : Set} → WellFormed b → Bytes labels
-    → VertexTo (StepsOf b labels) v level seen → 256 ≤ level → VertexSaid (StepsOf b labels) v Passed
+    → VertexTo (StepsOf b labels) v level seen → 256 ≤ level → VertexSaid (StepsOf b labels) v (Ok tt)
 vertex_end {b} {labels} W B T h m o = T.passed m (omega (arith, (loop_below b labels W B o).1)) o
 
 -- ALL LOOPS, by vertex: those of the lower vertices pass
 abbrev LoopsTo : Steps → ℕ → Type 0
 LoopsTo S v = (w m : ℕ) → w < v → Loop S w m → LoopPasses S w m
 
--- those of the vertices that are left no longer do
-abbrev pub LoopsPast : Steps → Set → Type 0
-LoopsPast S left = (w m : ℕ) → (¬ Has left w) → Loop S w m → LoopPasses S w m
+-- those of the vertices that have been given
+abbrev pub GivenPass : Steps → List ℕ → Type 0
+GivenPass S us = (w m : ℕ) → Memᴰ w us → Loop S w m → LoopPasses S w m
 
 -- entries lead to vertices
 pub entries_low : {b labels entries : List ℕ} (v : ℕ) {w : ℕ} → WellFormed b → TableOf
@@ -344,11 +345,9 @@ entries_low {b} {labels} v W T h = let (l, a, s) = (T.exactly _ _ h.below).0 h i
 -- at first all that have a loop are left
 module _ {b labels branches after entries low high : List ℕ} (W : WellFormed b) (B : Bytes labels)
     (T : Tables b labels branches after entries low high) where
-  pub past_none : {s : Set} → s ≡ row_of high 1 → LoopsPast (StepsOf b labels) s
-  past_none e w m n o =
-      absurd
-      (n (rw e ((T.of_levels.exactly 1 w (omega (arith, (loop_below b labels W B o).0, W.header.vertices_high))).1
-      (m, o, omega (arith, o.0)))))
+  pub has_loop : {s : Set} {w m : ℕ} → s ≡ row_of high 1 → Loop (StepsOf b labels) w m → Has s w
+  has_loop {w = w} {m} e o =
+      rw e ((T.of_levels.exactly 1 w (omega (arith, (loop_below b labels W B o).0, W.header.vertices_high))).1 (m, o, omega (arith, o.0)))
 
   -- and each has a lowest level
   pub level_low : {s : Set} {v : ℕ} → s ≡ row_of high 1 → Has s v → get_or low v 0 < 256
@@ -357,29 +356,30 @@ module _ {b labels branches after entries low high : List ℕ} (W : WellFormed b
       by_cases (dec_lt (get_or low v 0) 256) (λ k. k)
       (λ k. absurd ((T.of_low.each v m o).before m (omega arith) (omega (arith, (loop_below b labels W B o).1)) o))
 
-module _ {S : Steps} {left : Set} {v : ℕ} (P : LoopsPast S left) where
-  pub past_more : {set fewer : Set} {s : Stage} → Visit set left v fewer → s ≡ Passed → VertexSaid S v s → LoopsPast S fewer
-  past_more T e f w m n o =
-      let p : VertexSaid S v Passed = rw e at f in
-      by_cases (ℕ_discrete w v)
-      (λ q. subst (λ (x : ℕ). LoopPasses S x m) (sym q) (p m (subst (λ (x : ℕ). Loop S x m) q o)))
-      (λ q. P w m (λ h. n ((T.rest w).1 (h, q))) o)
+module _ {S : Steps} {us : List ℕ} (v : ℕ) (P : GivenPass S us) where
+  pub past_more : {s : Result Unit Refusal} → s ≡ Ok tt → VertexSaid S v s → GivenPass S (us ++ v ∷ [])
+  past_more e f w m n o =
+      let p : VertexSaid S v (Ok tt) = rw e at f in
+      ⊎_elim (λ g. P w m g o) (λ q. subst (λ (x : ℕ). LoopPasses S x m) (sym q) (p m (subst (λ (x : ℕ). Loop S x m) q o))) (one_more n)
 
-  pub past_stop : {s : Stage} {p : Place} → First (Has left) 0 128 v → s ≡ Refused p → VertexSaid S v s → LoopsSaid S s
-  past_stop F e f = rw e (stop (rw e at f))
+  -- those that have a loop are the members of a set, and the ones below v have been given
+  pub past_stop : {set : Set} {s : Result Unit Refusal} {p : Refusal} → ((w m : ℕ) → Loop S w m → Has set w)
+      → ((k : ℕ) → Memᴰ k us ↔ (Has set k × (k < v))) → s ≡ Err p → VertexSaid S v s → LoopsSaid S s
+  past_stop all below e f = rw e (stop (rw e at f))
     where
       lower : LoopsTo S v
-      lower w m h = P w m (F.before w (omega arith) h)
+      lower w m h o = P w m ((below w).1 (all w m o, h)) o
 
-      stop : {p : Place} → VertexSaid S v (Refused p) → LoopsSaid S (Refused p)
-      stop (l, o, below, f) = (
+      stop : {p : Refusal} → VertexSaid S v (Err p) → LoopsSaid S (Err p)
+      stop (l, o, low, f) = (
         v,
         l,
         o,
         λ w m e q. ⊎_elim (λ h. lower w m h q)
-            (λ (z, h). subst (λ (x : ℕ). LoopPasses S x m) (sym z) (below m h (subst (λ (x : ℕ). Loop S x m) z q))) e,
+            (λ (z, h). subst (λ (x : ℕ). LoopPasses S x m) (sym z) (low m h (subst (λ (x : ℕ). Loop S x m) z q))) e,
         f,
       )
 
-pub past_end : {S : Steps} {left : Set} → LoopsPast S left → Empty left → LoopsSaid S Passed
-past_end P E w m = P w m (E w)
+pub past_end : {S : Steps} {set : Set} {us : List ℕ} → ((w m : ℕ) → Loop S w m → Has set w) → members_of set ≡ us → GivenPass S us
+    → LoopsSaid S (Ok tt)
+past_end {set = set} all e P w m o = P w m (subst (Memᴰ w) e (member_listed set w (all w m o))) o

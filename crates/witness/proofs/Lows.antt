@@ -1,7 +1,8 @@
 -- The lowest level of each vertex, by the vertices that have an entry of each level.
-use mathlib.Core.Path.{◌≡◌, refl, ◌∙◌, subst}
+use mathlib.Core.Path.{◌≡◌, refl, sym, ◌∙◌, subst}
 use mathlib.Core.Logic.{⊎_elim, by_cases, inl, inr}
-use mathlib.Core.List.{List}
+use mathlib.Core.List.Memᴰ
+use mathlib.Core.List.{List, [], ◌∷◌, ◌++◌, Memᴰ}
 use Prim.Native.Nat.{ℕ, ◌+◌, ◌<◌}
 use native.Mathlib.Decide.{ℕ_discrete, dec_lt}
 use native.Mathlib.Omega.{arith}
@@ -9,35 +10,40 @@ use lib.ListN.{length, get_or, set, length-set}
 use lib.Seq.{get_or-set_same, get_or-set_other}
 use Rattle.bits.specs.First.{First}
 use Rattle.bits.specs.declared.sets.Set.{Set}
-use Rattle.bits.specs.Sets.{Has, empty_set, Empty, Union, Difference}
+use Rattle.bits.specs.Sets.{Has, empty_set, Union, Difference}
 use Rattle.bits.specs.Tables.{row_of, HasRow, TableOf}
 use Rattle.bits.proofs.Members.{none, has?}
-use Rattle.bits.proofs.Visits.{Visit}
+use Rattle.bits.specs.Listed.{members_of}
+use Rattle.bits.proofs.Listed.{member_listed, listed_member}
+use Rattle.bits.proofs.Given.{one_more, more_one}
 use Rattle.theory.specs.Charts.{Steps, Loop}
 use Rattle.witness.specs.Given.{Enters, LowestLevels, NoneAbove, PutFor}
 use Rattle.witness.proofs.Firsts.{first_as}
 
--- ONE LEVEL for the numbers of a set that are left no longer
-pub record Putting (s left : Set) (x : ℕ) (a r : List ℕ) : Type 0 where
+-- ONE LEVEL for the numbers of a set that have been given already
+pub record Putting (us : List ℕ) (x : ℕ) (a r : List ℕ) : Type 0 where
   pub long : length r ≡ length a
-  pub past : (v : ℕ) → Has s v → ¬ Has left v → get_or r v 0 ≡ x
-  pub others : (v : ℕ) → ¬ Has s v → get_or r v 0 ≡ get_or a v 0
+  pub given : (v : ℕ) → v < length a → Memᴰ v us → get_or r v 0 ≡ x
+  pub others : (v : ℕ) → ¬ Memᴰ v us → get_or r v 0 ≡ get_or a v 0
 
-pub putting_none : {s : Set} {x : ℕ} {a : List ℕ} → Putting s s x a a
-putting_none = record { long = refl; past = λ v h n. absurd (n h); others = λ v n. refl }
+pub putting_none : {x : ℕ} {a : List ℕ} → Putting [] x a a
+putting_none = record { long = refl; given = λ v h m. absurd (Memᴰ.not-nil m); others = λ v n. refl }
 
-pub putting_more : {s left fewer : Set} {u x : ℕ} {a r : List ℕ} → Visit s left u fewer → length a ≡ 128
-    → Putting s left x a r → Putting s fewer x a (set r u x)
-putting_more {s} {left} {fewer} {u} {x} {a} {r} G l P = record {
+pub putting_more : {us : List ℕ} (u : ℕ) {x : ℕ} {a r : List ℕ} → Putting us x a r → Putting (us ++ u ∷ []) x a (set r u x)
+putting_more {us} u {x} {a} {r} P = record {
   long = length-set r u x ∙ P.long;
-  past = λ v h n. by_cases (ℕ_discrete v u)
-      (λ e. rw e (get_or-set_same r u x 0 (omega (arith, P.long, l, G.has.below))))
-      (λ e. get_or-set_other r u v x 0 e ∙ P.past v h (λ k. n ((G.rest v).1 (k, e))));
-  others = λ v n. get_or-set_other r u v x 0 (λ e. n (rw e (G.within u G.has))) ∙ P.others v n;
+  given = λ v h m. by_cases (ℕ_discrete v u)
+      (λ e. rw e (get_or-set_same r u x 0 (omega (arith, P.long, h, e))))
+      (λ e. get_or-set_other r u v x 0 e ∙ P.given v h (⊎_elim (λ g. g) (λ z. absurd (e z)) (one_more m)));
+  others = λ v n. get_or-set_other r u v x 0 (λ e. n (more_one (inr e))) ∙ P.others v (λ m. n (more_one (inl m)));
 }
 
-pub putting_all : {s left : Set} {x : ℕ} {a r : List ℕ} → Empty left → Putting s left x a r → PutFor s x a r
-putting_all E P = record { long = P.long; of_set = λ v h. P.past v h (E v); others = P.others }
+pub putting_all : {s : Set} {us : List ℕ} {x : ℕ} {a r : List ℕ} → length a ≡ 128 → members_of s ≡ us → Putting us x a r → PutFor s x a r
+putting_all {s} l e P = record {
+  long = P.long;
+  of_set = λ v h. P.given v (omega (arith, l, h.below)) (subst (Memᴰ v) e (member_listed s v h));
+  others = λ v n. P.others v (λ m. n (listed_member s v (subst (Memᴰ v) (sym e) m)));
+}
 
 -- THE LEVELS below l, from 1 on. v has an entry of level m
 abbrev HasLevel : List ℕ → ℕ → ℕ → Type 0

@@ -4,20 +4,16 @@ use mathlib.Core.Path.{◌≡◌, subst}
 use mathlib.Core.List.{List}
 use Prim.Native.Nat.{ℕ}
 use native.Mathlib.Decide.{ℕ_discrete}
-use native.Mathlib.Omega.{arith}
 use Rattle.bits.specs.declared.sets.Set.{Set}
 use Rattle.bits.specs.Sets.{Has, empty_set, Empty, Members, Union, Difference}
 use Rattle.bits.specs.Tables.{row_of}
 use Rattle.bits.proofs.Members.{none, has?}
 use Rattle.theory.specs.Paths.{Edges, Star, here, step, Avoid}
 use Rattle.theory.proofs.Paths.{star_snoc}
-use Rattle.reach.specs.Searches.{Leads, FromSet, Closed, ClosedBut, InOrFrom, Known}
+use Rattle.reach.specs.Searches.{Leads, FromSet, Closed, ClosedBut, InOrFrom}
 use Rattle.witness.specs.Loops.{HasReached}
 
--- nothing is known, and nothing is inside
-pub nothing_known : (a after : List ℕ) → Known a after 0 0
-nothing_known a after = record { exactly = λ x y h l. absurd (omega (arith, l)) }
-
+-- nothing is inside
 pub nothing_closed : (E : Edges) {s : Set} → s ≡ empty_set → Closed E s
 nothing_closed E e x y h = absurd (none x (rw e at h))
 

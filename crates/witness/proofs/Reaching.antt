@@ -3,6 +3,7 @@ use mathlib.Core.Path.{◌≡◌, refl, subst}
 use mathlib.Core.Logic.{◌≢◌, ◌⊎◌, inl, inr, ⊎_elim, ◌↔◌, by_cases}
 use mathlib.Core.List.{List}
 use Prim.Native.Nat.{ℕ, ◌≤◌, ◌<◌}
+use Rattle.std.specs.Prelude.{Some, None}
 use native.Mathlib.Decide.{ℕ_discrete}
 use native.Mathlib.Omega.{arith}
 use Rattle.bits.specs.First.{First}
@@ -91,11 +92,17 @@ module _ {b labels : List ℕ} {r : Set} (W : WellFormed b) (M : Members (Star (
   none_unreached : (k : ℕ) → k < w → ¬ Unreached (vertices_of b) (StepsOf b labels) (start_of b) k
   none_unreached k h (a, l, p) = p ((M.exactly k (omega (arith, W.header.vertices_high))).0 (all k a h))
 
-  unreached_here : 0 < w → w < vertices_of b → ¬ Has r w → FirstUnreached b labels w
-  unreached_here a l h = first_here none_unreached l (a, l, λ p. h ((M.exactly w (omega (arith, W.header.vertices_high))).1 p))
+  unreached_here : 0 < w → w < vertices_of b → ¬ Has r w → FirstUnreached b labels (Some w)
+  unreached_here a l h = record {
+    first = first_here none_unreached l (a, l, λ p. h ((M.exactly w (omega (arith, W.header.vertices_high))).1 p));
+    below = l;
+  }
 
-  unreached_none : w ≡ vertices_of b → FirstUnreached b labels w
-  unreached_none e = first_none none_unreached e
+  unreached_none : w ≡ vertices_of b → FirstUnreached b labels None
+  unreached_none e = record {
+    first = subst (First (Unreached (vertices_of b) (StepsOf b labels) (start_of b)) 0 (vertices_of b)) e (first_none none_unreached e);
+    below = tt;
+  }
 
 -- w is the lowest of the vertices that are not reached, the end aside, or 128
 module _ {b labels : List ℕ} {r : Set} (W : WellFormed b) (M : Members (Star (Any (StepsOf b labels)) (start_of b)) r)
@@ -105,7 +112,7 @@ module _ {b labels : List ℕ} {r : Set} (W : WellFormed b) (M : Members (Star (
   below k a h l = by_cases (has? r k) (λ g. g) (λ n. absurd (F.before k (omega arith) h
       ((D k).1 ((B.exactly k (omega (arith, W.header.vertices_high))).1 l, λ g. ⊎_elim n (λ z. omega (arith, a, z)) ((A k).0 g)))))
 
-  pub lowest_unreached : w ≢ 128 → FirstUnreached b labels w
+  pub lowest_unreached : w ≢ 128 → FirstUnreached b labels (Some w)
   lowest_unreached n =
       let m : w < 128 = omega (arith, n, F.within) in
       let (p, q) = (D w).0 (F.holds m) in
@@ -113,5 +120,5 @@ module _ {b labels : List ℕ} {r : Set} (W : WellFormed b) (M : Members (Star (
       let a : 0 < w = by_cases (ℕ_discrete w 0) (λ z. absurd (q ((A w).1 (inr z)))) (λ z. omega arith) in
       unreached_here W M (λ k i h. below k i h (omega arith)) a l (λ g. q ((A w).1 (inl g)))
 
-  pub none_missing : {n : ℕ} → w ≡ 128 → n ≡ vertices_of b → FirstUnreached b labels n
-  none_missing e z = unreached_none W M (λ k i h. below k i (omega (arith, e, z, W.header.vertices_high)) (omega arith)) z
+  pub none_missing : w ≡ 128 → FirstUnreached b labels None
+  none_missing e = unreached_none W M {w = vertices_of b} (λ k i h. below k i (omega (arith, e, h, W.header.vertices_high)) h) refl

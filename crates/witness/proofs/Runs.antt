@@ -6,7 +6,7 @@ use Prim.Native.Nat.{ℕ, ◌+◌, ◌-◌, ◌*◌, ◌/◌, ◌%◌, ◌≤◌
 use native.Mathlib.Decide.{ℕ_discrete, dec_lt}
 use native.Mathlib.Nat.{le_refl}
 use native.Mathlib.Omega.{arith}
-use lib.ListN.{length, get_or}
+use lib.ListN.{get_or}
 use Rattle.bits.specs.Bits.{Bytes}
 use Rattle.bits.specs.Packed.{four_at, Packed}
 use Rattle.bits.specs.declared.sets.Set.{Set}
@@ -15,22 +15,18 @@ use Rattle.bits.specs.Tables.{Gains}
 use Rattle.bits.proofs.Words.{no_bit}
 use Rattle.bits.proofs.Members.{⊎_map, zero_off, none}
 use Rattle.bits.proofs.Gains.{gains_none, gains_as, gains_then}
-use Rattle.chart.specs.Bodies.{vertices_of, to_of}
+use Rattle.chart.specs.Bodies.{vertices_of, count_of, to_of}
 use Rattle.witness.specs.declared.tables.Taken.{Taken}
-use Rattle.witness.specs.Given.{Run, IsBranch, IsEntry, HasLabel, RunLeads, WithTargets, Took, LevelsOf}
+use Rattle.witness.specs.declared.tables.Runs.{Runs}
+use Rattle.witness.specs.Given.{IsBranch, IsEntry, HasLabel, RunLeads, WithTargets, Took, LevelsOf}
 use Rattle.witness.specs.Given.{RunSteps, RunLevels, RunTargets}
 
--- where a transition of a run stands, and what it leads to
-module _ {b ones : List ℕ} {a e : ℕ} (R : Run b ones a e) {i : ℕ} (h : i < e) where
-  pub run_place : (i < 8192) × (4 * i + 4 + 2 < length b)
-  run_place =
-      let H = R.formed.header in
-      (omega (arith, R.within, H.count_high), omega (arith, R.within, H.whole))
-
-  pub run_target : {t : ℕ} → t ≡ to_of b i → ((n : ℕ) × (t < n) × Ones n ones) × (t < 128)
-  run_target z =
-      let T = R.formed.each i (omega (arith, R.within)) in
-      ((vertices_of b, omega (arith, z, T.to_high), R.of_ones), omega (arith, z, T.to_high, R.formed.header.vertices_high))
+-- what a transition that is looked for leads to
+module _ (r : Runs) {e : ℕ} (within : e ≤ count_of r.body.now) {i : ℕ} (h : i < e) where
+  pub target_of : {t : ℕ} → t ≡ to_of r.body.now i → ((n : ℕ) × (t < n) × Ones n r.ones.now) × (t < 128)
+  target_of z =
+      let T = r.formed.each i (omega arith) in
+      ((vertices_of r.body.now, omega (arith, z, T.to_high), r.of_ones), omega (arith, z, T.to_high, r.formed.header.vertices_high))
 
 -- WHAT A RUN LEADS TO: nothing, one transition, one run and then another
 pub targets_none : {b : List ℕ} {a : ℕ} {s : Set} → WithTargets b a a s s

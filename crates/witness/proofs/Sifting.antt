@@ -1,48 +1,55 @@
 -- Of the bits of a word those with a property, bit by bit; and of a set.
 use mathlib.Core.Path.{◌≡◌, sym, subst}
-use mathlib.Core.Logic.{◌⊎◌, inl, inr, ⊎_elim, by_cases, ◌↔◌}
-use Prim.Native.Nat.{ℕ, ◌+◌, ◌-◌, ◌≤◌, ◌<◌}
+use mathlib.Core.Logic.{inl, inr, ⊎_elim, by_cases, ◌↔◌}
+use mathlib.Core.List.Memᴰ
+use mathlib.Core.List.{List, [], ◌∷◌, ◌++◌, Memᴰ}
+use Prim.Native.Nat.{ℕ, ◌+◌, ◌-◌, ◌^◌, ◌≤◌, ◌<◌}
 use native.Mathlib.Decide.{dec_lt}
 use native.Mathlib.Omega.{arith}
 use Rattle.bits.specs.declared.sets.Set.{Set}
-use Rattle.bits.specs.Words.{On, With, Without}
+use Rattle.bits.specs.Words.{On, With}
+use Rattle.bits.specs.Listed.{places_of}
 use Rattle.bits.specs.Sets.{Has, Members}
-use Rattle.bits.proofs.Gains.{taken_less, taken_or}
-use Rattle.bits.proofs.Members.{zero_off, low_has, high_has, has_low, has_high}
-use Rattle.witness.specs.Loops.{WithIf}
+use Rattle.bits.proofs.Words.{bit_below}
+use Rattle.bits.proofs.Listed.{place_listed, listed_place}
+use Rattle.bits.proofs.Given.{one_more, more_one}
+use Rattle.bits.proofs.Members.{⊎_map, zero_off, low_has, high_has, has_low, has_high}
 
--- of the bits of a word without those that are left, found has those with P
-pub record Sifting (P : ℕ → Type 0) (word left found : ℕ) : Type 0 where
-  pub rest : (k : ℕ) → On left k → On word k
-  pub only : (k : ℕ) → On found k → On word k × P k
-  pub come : (k : ℕ) → On word k → P k → On found k ⊎ On left k
+-- of the bits that have been given, found has those with P
+pub record Sifting (P : ℕ → Type 0) (ks : List ℕ) (found : ℕ) : Type 0 where
+  pub exactly : (k : ℕ) → On found k ↔ (Memᴰ k ks × P k)
 
-pub sift_none : {P : ℕ → Type 0} {word : ℕ} → Sifting P word word 0
-sift_none = record { rest = λ k h. h; only = λ k h. absurd (zero_off k h); come = λ k h p. inr h }
+pub sift_none : {P : ℕ → Type 0} → Sifting P [] 0
+sift_none = record { exactly = λ k. (λ h. absurd (zero_off k h), λ (m, p). absurd (Memᴰ.not-nil m)) }
 
-module _ {P : ℕ → Type 0} {word left found : ℕ} (S : Sifting P word left found) where
+module _ {P : ℕ → Type 0} {ks : List ℕ} {k found : ℕ} (S : Sifting P ks found) where
   -- the next bit has P
-  sift_with : {k left' found' : ℕ} → On left k → P k → With found k found' → Without left k left' → Sifting P word left' found'
-  sift_with {k} {left'} {found'} on p F L = record {
-    rest = λ j h. S.rest j (taken_less L j h);
-    only = λ j h. ⊎_elim (S.only j) (λ e. subst (λ (i : ℕ). On word i × P i) (sym e) (S.rest k on, p)) ((F.exactly j).0 h);
-    come = λ j h q. ⊎_elim (λ g. inl ((F.exactly j).1 (inl g))) (λ g. ⊎_elim (λ e. inl ((F.exactly j).1 (inr e))) inr (taken_or L j g)) (S.come j h q);
+  pub sift_with : {r : ℕ} → P k → With found k r → Sifting P (ks ++ k ∷ []) r
+  sift_with p F = record {
+    exactly = λ j. (
+      λ h. ⊎_elim
+          (λ g. let (m, q) = (S.exactly j).0 g in (more_one (inl m), q))
+          (λ e. (more_one (inr e), subst P (sym e) p))
+          ((F.exactly j).0 h),
+      λ (m, q). (F.exactly j).1 (⊎_map (λ n. (S.exactly j).1 (n, q)) (λ e. e) (one_more m)),
+    );
   }
 
   -- it has not
-  sift_past : {k left' : ℕ} → ¬ P k → Without left k left' → Sifting P word left' found
-  sift_past {k} n L = record {
-    rest = λ j h. S.rest j (taken_less L j h);
-    only = S.only;
-    come = λ j h q. ⊎_elim inl (λ g. ⊎_elim (λ e. absurd (n (subst P e q))) inr (taken_or L j g)) (S.come j h q);
+  pub sift_past : ¬ P k → Sifting P (ks ++ k ∷ []) found
+  sift_past n = record {
+    exactly = λ j. (
+      λ h. let (m, q) = (S.exactly j).0 h in (more_one (inl m), q),
+      λ (m, q). ⊎_elim (λ g. (S.exactly j).1 (g, q)) (λ e. absurd (n (subst P e q))) (one_more m),
+    );
   }
 
-  pub sift_more : {k left' found' : ℕ} → On left k → WithIf (P k) found k found' → Without left k left' → Sifting P word left' found'
-  sift_more on (inl (p, F)) L = sift_with on p F L
-  sift_more {found' = found'} on (inr (n, e)) L = rw e (sift_past n L)
-
-  pub sift_all : left ≡ 0 → (k : ℕ) → On found k ↔ (On word k × P k)
-  sift_all e k = (S.only k, λ (h, p). ⊎_elim (λ g. g) (λ g. absurd (zero_off k (rw e at g))) (S.come k h p))
+pub sift_all : {P : ℕ → Type 0} {word found : ℕ} {ks : List ℕ} → word < 2 ^ 64 → places_of word ≡ ks → Sifting P ks found
+    → (k : ℕ) → On found k ↔ (On word k × P k)
+sift_all {word = word} f e S k = (
+  λ h. let (m, p) = (S.exactly k).0 h in ((listed_place word k (subst (Memᴰ k) (sym e) m)).1, p),
+  λ (on, p). (S.exactly k).1 (subst (Memᴰ k) e (place_listed word k (bit_below 64 word k f on) on), p),
+)
 
 -- OF A SET, by its two words
 pub sifted : (P : ℕ → Type 0) (s r : Set) → ((k : ℕ) → On r.lo k ↔ (On s.lo k × P (0 + k)))

@@ -20,7 +20,7 @@ use Rattle.theory.specs.Orders.{Pair, AllLoops}
 use Rattle.theory.specs.Tests.{Decides, row_pairs, pairs}
 use Rattle.theory.proofs.Pairs.{pairs→, pairs←, pairs_distinct, distinct_map}
 use Rattle.theory.proofs.Tests.{decides_eqb}
-use Rattle.report.specs.declared.Stage.TheVariants as stage
+use Rattle.std.specs.Prelude.{Ok}
 use Rattle.chart.specs.Checks.{check_of}
 use Rattle.chart.specs.Steps.{StepsOf}
 use Rattle.chart.proofs.Checks.{well_formed}
@@ -77,7 +77,7 @@ counted_two {a} {k} {n} {m} h e c =
     subst (λ (l : ℕ). CountedTo a l (n + m)) i (subst (CountedTo a (2 * k + 1 + 1)) j (counted_more (omega arith) (counted_more (omega arith) c)))
 
 -- the sets have a member for each loop
-module _ {b labels a : List ℕ} (passed : check_of b ≡ stage.Passed) (B : Bytes labels) (T : TableOf (Enters (StepsOf b labels)) a) where
+module _ {b labels a : List ℕ} (passed : check_of b ≡ Ok tt) (B : Bytes labels) (T : TableOf (Enters (StepsOf b labels)) a) where
   abbrev swap : Pair → Pair
   swap x = (x.1, x.0)
 

@@ -1,14 +1,13 @@
 -- What the checks of a labelling are given, and what is worked out of it once.
-use Rattle.std.specs.Prelude.{ℕ, ◌+◌, ◌*◌, ◌/◌, ◌%◌, ◌≤◌, ◌<◌, ◌≡◌, ◌⊎◌, ◌↔◌, List, length, get_or}
+use Rattle.std.specs.Prelude.{ℕ, ◌+◌, ◌*◌, ◌/◌, ◌%◌, ◌≤◌, ◌<◌, ◌≡◌, ◌⊎◌, ◌↔◌, List, length, get_or, Ok, Option, IfSome, unwrap_or}
 use Rattle.bits.specs.First.{First}
 use Rattle.bits.specs.declared.sets.Set.{Set}
-use Rattle.bits.specs.Sets.{Has, Members, size_of, Ones}
+use Rattle.bits.specs.Sets.{Has, Members, size_of}
 use Rattle.bits.specs.Tables.{row_of, HasRow, TableOf}
 use Rattle.theory.specs.Paths.{Edges}
 use Rattle.theory.specs.Charts.{Steps, Any, Branch, Loop}
 use Rattle.theory.specs.Checks.{Unreached, NoBranchCycle}
-use Rattle.report.specs.declared.Stage.TheVariants.{Passed}
-use Rattle.chart.specs.Bodies.{vertices_of, start_of, count_of, to_of, WellFormed}
+use Rattle.chart.specs.Bodies.{vertices_of, start_of, count_of, to_of}
 use Rattle.chart.specs.Checks.{check_of}
 use Rattle.chart.specs.Leaving.{Begins}
 use Rattle.reach.specs.Searches.{Known}
@@ -18,7 +17,7 @@ use Rattle.witness.specs.declared.tables.Outgoing.{Outgoing}
 
 -- 20, 21 and 30 pass, and begins says where the transitions of each vertex begin
 pub record Given (b labels begins : List ℕ) : Type 0 where
-  pub passed : check_of b ≡ Passed
+  pub passed : check_of b ≡ Ok tt
   pub of_begins : Begins b begins
   pub long : length labels ≡ count_of b
 
@@ -56,9 +55,10 @@ pub record Tables (b labels branches after entries low high : List ℕ) : Type 0
   pub of_levels : TableOf (EntersHigh (StepsOf b labels)) high
   pub levels_fit : LevelsFit labels high
 
--- r is the lowest vertex that the start does not reach, or V
-abbrev pub FirstUnreached : List ℕ → List ℕ → ℕ → Type 0
-FirstUnreached b labels r = First (Unreached (vertices_of b) (StepsOf b labels) (start_of b)) 0 (vertices_of b) r
+-- r is the lowest vertex that the start does not reach, if there is one
+pub record FirstUnreached (b labels : List ℕ) (r : Option ℕ) : Type 0 where
+  pub first : First (Unreached (vertices_of b) (StepsOf b labels) (start_of b)) 0 (vertices_of b) (unwrap_or r (vertices_of b))
+  pub below : IfSome r (λ (w : ℕ). w < vertices_of b)
 
 -- WHAT IS COLLECTED
 abbrev pub NoSteps : Steps
@@ -93,13 +93,7 @@ pub record Room (S : Steps) (n top : ℕ) (next branches entries entered : List 
   pub for_entries : 2 * n ≤ length entries
   pub for_levels : 2 * top + 2 ≤ length entered
 
--- A RUN OF TRANSITIONS, from a up to e, and a table by which what they lead to comes into a set
-pub record Run (b ones : List ℕ) (a e : ℕ) : Type 0 where
-  pub formed : WellFormed b
-  pub ordered : a ≤ e
-  pub within : e ≤ count_of b
-  pub of_ones : Ones (vertices_of b) ones
-
+-- A RUN OF TRANSITIONS, from a up to e
 -- transition i is a branch, and an entry
 abbrev pub IsBranch : List ℕ → ℕ → Type 0
 IsBranch labels i = get_or labels i 0 ≡ 0

@@ -1,25 +1,33 @@
 -- What 33 to 35 say of one loop, and what they go by.
-use Rattle.std.specs.Prelude.{ℕ, ◌+◌, ◌<◌, ◌≢◌, ◌⊎◌, ◌↔◌, ◌≡◌, Bool, true, false, List, length}
+use Rattle.std.specs.Prelude.{ℕ, ◌+◌, ◌<◌, ◌≢◌, ◌⊎◌, ◌↔◌, ◌≡◌, Bool, true, List, length, Result, Ok, Err, IsNone, IfSome}
 use Rattle.bits.specs.declared.sets.Set.{Set}
-use Rattle.bits.specs.Words.{With}
 use Rattle.bits.specs.Sets.{Has, Empty, Members}
 use Rattle.bits.specs.Tables.{row_of, HasRow, TableOf}
 use Rattle.theory.specs.Paths.{Avoid}
 use Rattle.theory.specs.Charts.{Steps, Loop}
 use Rattle.theory.specs.LoopCharts.{InBody}
 use Rattle.theory.specs.Checks.{LoopPasses}
-use Rattle.report.specs.declared.Stage.{Stage}
-use Rattle.report.specs.declared.Stage.TheVariants.{Passed, Refused}
+use Rattle.report.specs.declared.Refusal.{Refusal}
 use Rattle.chart.specs.Bodies.{WellFormed}
 use Rattle.reach.specs.Searches.{Leads, FromSet, Closed}
 use Rattle.chart.specs.Steps.{StepsOf}
 use Rattle.witness.specs.Answers.{FailsAt}
-use Rattle.witness.specs.Given.{EntersHigh, IsLevel}
+use Rattle.witness.specs.Given.{EntersHigh, IsLevel, Tables}
+use Rattle.witness.specs.declared.loop_tables.LoopTables.{LoopTables}
+use Rattle.witness.specs.declared.loop_checks.Part.{Part}
 use Rattle.witness.specs.declared.loop_checks.Survey.{Survey}
 
-abbrev pub LoopSaid : Steps → ℕ → ℕ → Stage → Type 0
-LoopSaid S v l Passed = LoopPasses S v l
-LoopSaid S v l (Refused p) = FailsAt S v l p
+-- the transitions of the labelling
+abbrev pub steps_of : LoopTables → Steps
+steps_of t = StepsOf t.labelling.chart.now.body.now t.labelling.labels.now
+
+-- the tables are those of the labelling
+abbrev pub TablesOf : LoopTables → Type 0
+TablesOf t = Tables t.labelling.chart.now.body.now t.labelling.labels.now t.branches.next.now t.branches.after.now t.entries.now t.low.now t.high.now
+
+abbrev pub LoopSaid : Steps → ℕ → ℕ → Result Unit Refusal → Type 0
+LoopSaid S v l (Ok tt) = LoopPasses S v l
+LoopSaid S v l (Err p) = FailsAt S v l p
 
 -- w is v, or has v in its set of the table
 abbrev pub Back : List ℕ → ℕ → ℕ → Type 0
@@ -28,10 +36,6 @@ Back after v w = (w ≡ v) ⊎ HasRow after w v
 -- w is in the set, and is v or has v in its set of the table
 abbrev pub Returning : List ℕ → ℕ → Set → ℕ → Type 0
 Returning after v set w = Has set w × Back after v w
-
--- r has the bits of x, and where C holds bit k too
-abbrev pub WithIf : Type 0 → ℕ → ℕ → ℕ → Type 0
-WithIf C x k r = (C × With x k r) ⊎ ((¬ C) × (r ≡ x))
 
 -- w, which is not v, is in the set and in set `level` of the table
 abbrev pub InBoth : Set → List ℕ → ℕ → ℕ → ℕ → Type 0
@@ -114,10 +118,13 @@ pub record LeadsOn (branches high : List ℕ) (ends : Set) (v level : ℕ) (set 
   pub lower : (w : ℕ) → Has all w → HasRow high level w → w ≡ v
   pub onward : (w : ℕ) → Has all w → Has ends w → w ≡ v
 
+-- branches leave the part by its last vertex alone
+pub record LeftBy (branches : List ℕ) (part : Part) : Type 0 where
+  pub low : part.last < 128
+  pub closed : Closed (Avoid part.last (Leads branches)) part.set
+
 -- of v, whose entries lead to a set: that leads on, or which of it return and what these reach, or more
 pub record SurveyOf (branches after high : List ℕ) (ends : Set) (v level : ℕ) (to : Set) (r : Survey) : Type 0 where
-  pub low : r.last < 128
-  pub closed : Closed (Avoid r.last (Leads branches)) r.inside
-  pub passes : r.passed ≡ true → LeadsOn branches high ends v level to
-  pub returns : r.passed ≡ false
-      → Members (Returning after v to) r.back × HasReached branches v r.back r.inside
+  pub left : LeftBy branches r.part
+  pub passes : IsNone r.back → LeadsOn branches high ends v level to
+  pub returns : IfSome r.back (λ back. Members (Returning after v to) back × HasReached branches v back r.part.set)

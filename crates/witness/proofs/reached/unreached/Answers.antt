@@ -3,37 +3,27 @@ use Rattle.chart.proofs.Checks.{well_formed}
 use Rattle.witness.proofs.Reaching.{only_member, members_reached, lowest_unreached, none_missing}
 use Rattle.witness.proofs.reached.unreached.Goals as goal
 
-pub byte-n-requires : goal.byte-n-requires
-byte-n-requires c = let w = (well_formed _ c.requires.0).header.long in omega arith
-
-pub byte-requires : goal.byte-requires
-byte-requires c = let w = (well_formed _ c.requires.0).header.long in omega arith
-
 pub with-start-requires : goal.with-start-requires
-with-start-requires c = let w = (well_formed _ c.requires.0).header in omega arith
-
-pub below-requires : goal.below-requires
-below-requires c =
-    let e = c.byte-n.ensures.0 in
-    omega (arith, e, (well_formed _ c.requires.0).header.vertices_high)
+with-start-requires c =
+    let w = (well_formed _ c.args.chart.now.passed).header in
+    omega (arith, w.vertices_high, c.start.ensures.2)
 
 pub returns-then-w-eq128 : goal.returns-then-w-eq128
 returns-then-w-eq128 c =
-    let w = well_formed _ c.requires.0 in
-    let e = c.byte-n.ensures.0 in
-    let vertices = rw e at c.below.ensures in
+    let w = well_formed _ c.args.chart.now.passed in
+    let vertices = rw c.vertices.ensures.0 at c.below.ensures in
     let start = only_member c.empty.ensures c.with-start.ensures in
-    let here = rw c.byte.ensures.0 at start in
+    let here = rw c.start.ensures.0 at start in
     λ labels T.
     none_missing w (members_reached w T (omega (arith, w.header.start_high, w.header.vertices_high)) here c.closure.ensures)
-    vertices c.with-reached.ensures c.difference.ensures c.lowest-w.ensures c.if-w-eq128.true e
+    vertices c.with-reached.ensures c.difference.ensures c.lowest-w.ensures c.if-w-eq128.true
 
 pub returns : goal.returns
 returns c =
-    let w = well_formed _ c.requires.0 in
-    let vertices = rw c.byte-n.ensures.0 at c.below.ensures in
+    let w = well_formed _ c.args.chart.now.passed in
+    let vertices = rw c.vertices.ensures.0 at c.below.ensures in
     let start = only_member c.empty.ensures c.with-start.ensures in
-    let here = rw c.byte.ensures.0 at start in
+    let here = rw c.start.ensures.0 at start in
     λ labels T.
     lowest_unreached w (members_reached w T (omega (arith, w.header.start_high, w.header.vertices_high)) here c.closure.ensures)
     vertices c.with-reached.ensures c.difference.ensures c.lowest-w.ensures c.if-w-eq128.false
