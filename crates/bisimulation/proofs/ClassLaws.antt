@@ -2,7 +2,7 @@
 use mathlib.Core.Path.{◌≡◌, refl, sym, ◌∙◌, ap, subst}
 use mathlib.Core.Logic.{◌⊎◌, inl, inr, ⊎_elim, ◌↔◌, by_cases}
 use mathlib.Core.List.{List}
-use Prim.Native.Nat.{ℕ, ◌+◌, ◌/◌, ◌≤◌, ◌<◌}
+use Prim.Native.Nat.{ℕ, ◌+◌, ◌≤◌, ◌<◌}
 use native.Mathlib.Nat.{eq-or-lt_of_le}
 use native.Mathlib.Decide.{ℕ_discrete}
 use native.Mathlib.Omega.{arith}
@@ -12,8 +12,8 @@ use Rattle.bits.specs.Words.{On, With}
 use Rattle.bits.proofs.Words.{subset_le}
 use Rattle.bits.proofs.Members.{zero_off}
 use Rattle.bits.proofs.Gains.{blank}
-use Rattle.bisimulation.specs.Suspects.{SameRow, Sorted, Acting}
-use Rattle.bisimulation.specs.Classes.{Classes, class_at, Classed, Leading, Alike, Saturated, ClassSteps, Stepped}
+use Rattle.bisimulation.specs.Suspects.{SameRow, Sorted}
+use Rattle.bisimulation.specs.Classes.{Classes, Classed, Alike, Saturated, ClassSteps, Stepped}
 
 -- `classes`: the heads, for each vertex a row below u that is its own class
 pub record Heads (class : List ℕ) (u : ℕ) (heads : List ℕ) : Type 0 where
@@ -92,7 +92,7 @@ module _ {relation class heads : List ℕ} {u w c : ℕ} (C : Classes relation u
       at : (x : ℕ) → x ≡ w → get_or (set heads w c) x 0 ≡ c
       at x e = rw e (get_or-set_same heads w c 0 (omega (arith, H.long)))
 
--- `tabulate`: words by kind, of no number, and of one more
+-- `classify`: words by kind, of no number, and of one more
 pub sorted_none : (kind : ℕ → ℕ) (n : ℕ) → Sorted kind n 0 (replicate {A = ℕ} n 0)
 sorted_none kind n = record {
   long = length-replicate {A = ℕ} n 0;
@@ -128,25 +128,13 @@ sorted_more kind {n} {k} {r} {t} S l W = record {
 pub classed : {keys words class relation : List ℕ} {m rows : ℕ} → Stepped keys words m rows relation → Classes relation rows class
     → Classed keys class m
 classed S C = record {
-  steps_few = S.listed.few;
-  keys_long = S.listed.keys_long;
-  fit = S.listed.fit;
+  steps_few = S.steps_few;
+  keys_long = S.keys_long;
+  fit = S.fit;
   targets = λ k l. omega (arith, S.targets k l, S.few);
   class_long = C.long;
   class_few = λ u l. C.few u;
 }
-
--- `alike`
-pub alike_steps : {keys class leading acting : List ℕ} {m k : ℕ} (r : ℕ) → Classed keys class m → Leading keys class m leading
-    → Acting keys m acting → k < m
-    → ((j : ℕ) → On r j ↔ (On (get_or leading (class_at keys class k) 0) j × On (get_or acting (get_or keys k 0 / 256) 0) j))
-    → On r k × ((j : ℕ) → On r j → Alike keys class k j)
-alike_steps {keys} {class} {leading} {acting} {m} {k} r C L A l R =
-    let a : get_or keys k 0 / 256 < 256 = omega (arith, C.fit k l) in
-    let c = C.class_few _ (C.targets k l) in (
-      (R k).1 ((L.exactly _ k c).1 (l, refl), (A.exactly _ k a).1 (l, refl)),
-      λ j on. let (p, q) = (R j).0 on in record { actions = sym ((A.exactly _ j a).0 q).1; targets = sym ((L.exactly _ j c).0 p).1 },
-    )
 
 -- `saturated`: each step of the word itself, and those alike to one more
 pub saturated_none : (keys class : List ℕ) (word : ℕ) → Saturated keys class word word

@@ -18,7 +18,6 @@ use Rattle.chart.specs.Leaving.{Begins}
 use Rattle.chart.specs.Numbered.{Lists}
 use Rattle.chart.proofs.Checks.{well_formed}
 use Rattle.chart.proofs.Order.{at_mid, between}
-use Rattle.bisimulation.specs.declared.clearing.Latest.{Latest}
 use Rattle.bisimulation.specs.declared.clearing.Matches.{Matches}
 use Rattle.bisimulation.specs.Answers.{RelationFits, Passes, PassOutside, NumberedChart}
 use Rattle.bisimulation.specs.Suspects.{Stretch, Column, Into, Acting, UsedBy, Used, Match, MatchedIn}
@@ -46,9 +45,9 @@ pub record Walking (into acting users body : List ℕ) (a : ℕ) (set : Set) (ma
   pub same : (u : ℕ) → Has able u → InSome users last u
 
 -- no transition at all
-pub walk_none : (into acting users body : List ℕ) {a b : ℕ} (set : Set) (known : Latest) → b ≤ a
-    → Walked into acting users body a b set (record { matched = 0; able = set; known = known })
-walk_none into acting users body set known l =
+pub walk_none : (into acting users body : List ℕ) {a b : ℕ} (set : Set) → b ≤ a
+    → Walked into acting users body a b set (record { matched = 0; able = set })
+walk_none into acting users body set l =
     record { matched = λ k on. absurd (zero_off k on); given = λ u h. h; able = λ u h i f g. absurd (omega arith) }
 
 -- the rows with a step of a word
@@ -66,9 +65,9 @@ walk_first into acting users body a first E U I = record {
 }
 
 module _ {into acting users body : List ℕ} {a : ℕ} {set : Set} {matched last : ℕ} {able : Set} {i : ℕ} (S : Walking into acting users body a set matched last able i) where
-  pub walk_all : {b : ℕ} {all union : Set} (known : Latest) → Intersection all union set → b ≤ i → i ≤ b
-      → Walked into acting users body a b all (record { matched = matched; able = able; known = known })
-  walk_all known I l m = record {
+  pub walk_all : {b : ℕ} {all union : Set} → Intersection all union set → b ≤ i → i ≤ b
+      → Walked into acting users body a b all (record { matched = matched; able = able })
+  walk_all I l m = record {
     matched = λ k on. let (j, f, h, M) = S.matches k on in (j, f, omega arith, M);
     given = λ u h. ((I u).0 (S.given u h)).0;
     able = λ u h j f g. S.all u h j f (omega arith);

@@ -17,10 +17,9 @@ use Rattle.theory.specs.Tests.{Decides}
 use Rattle.theory.proofs.Tests.{decides_eqb, not_so}
 use Rattle.theory.specs.Relations.{EndsAgree, fails_pair}
 use Rattle.chart.specs.Bodies.{vertices_of, start_of}
-use Rattle.report.specs.declared.Place.{Place}
-use Rattle.report.specs.declared.Place.TheVariants.{PairNoVertex}
-use Rattle.report.specs.declared.Stage.{Stage}
-use Rattle.report.specs.declared.Stage.TheVariants.{Passed, Refused}
+use Rattle.std.specs.Prelude.{Result, Ok, Err}
+use Rattle.report.specs.declared.Refusal.{Refusal}
+use Rattle.report.specs.declared.Refusal.TheVariants.{PairNoVertex}
 use Rattle.bisimulation.specs.Answers.{Related, StrayBit, Passes, FailsWith, PairAnswer, RowAnswer, CheckedAnswer, StrayAnswer}
 use Rattle.bisimulation.proofs.RowLaws.{related_row, has_related}
 
@@ -34,7 +33,7 @@ decides_ends u v = go (eqb u 0) (eqb v 0) (decides_eqb u 0) (decides_eqb v 0)
     go false true d e = ((λ h. absurd (false≢true h)), (λ h. absurd (not_so d refl (h.1 (e.0 refl)))))
     go false false d e = ((λ h. ((λ q. absurd (not_so d refl q)), (λ q. absurd (not_so e refl q)))), (λ h. refl))
 
-pub passed_refused : {s : Stage} {p : Place} → s ≡ Passed → ¬ (s ≡ Refused p)
+pub passed_refused : {s : Result Unit Refusal} {p : Refusal} → s ≡ Ok tt → ¬ (s ≡ Err p)
 passed_refused e f = let z : ◌≡◌ {A = ℕ} 0 1 = cc in omega arith
 
 -- 41: d has the bits of row u outside the first V columns, and v is its lowest
@@ -51,7 +50,7 @@ module _ (body relation : List ℕ) (u : ℕ) {v : ℕ} {s inside d : Set} (M : 
   stray_is w (l, r) = (D w).1 ((has_related relation u M w).1 r, λ h. omega (arith, (I.exactly w h.below).0 h))
 
   -- a row, and the rows before it
-  pub stray_first : ((a : ℕ) → a < u → (w : ℕ) → ¬ StrayBit body relation a w) → v < 128 → StrayAnswer body relation (Refused (PairNoVertex u v))
+  pub stray_first : ((a : ℕ) → a < u → (w : ℕ) → ¬ StrayBit body relation a w) → v < 128 → StrayAnswer body relation (Err (PairNoVertex u v))
   stray_first h l = record {
     passed = λ q. absurd (passed_refused q refl);
     refused = λ p q. (u, v, record { holds = is_stray v (F.holds l); earlier = earlier }, refl);
@@ -63,7 +62,7 @@ module _ (body relation : List ℕ) (u : ℕ) {v : ℕ} {s inside d : Set} (M : 
   pub stray_none : 128 ≤ v → (w : ℕ) → ¬ StrayBit body relation u w
   stray_none l w s = let h = stray_is w s in F.before w (omega arith) (omega (arith, h.below)) h
 
-pub stray_passed : {body relation : List ℕ} → ((u v : ℕ) → ¬ StrayBit body relation u v) → StrayAnswer body relation Passed
+pub stray_passed : {body relation : List ℕ} → ((u v : ℕ) → ¬ StrayBit body relation u v) → StrayAnswer body relation (Ok tt)
 stray_passed h = record { passed = λ q. h; refused = λ p q. absurd (passed_refused refl q) }
 
 -- `all_inside`: what the first n rows are related to
@@ -103,21 +102,21 @@ joined_inside body relation {rows} W l J I D = (
 
 module _ {expression body relation : List ℕ} {u : ℕ} where
   -- a pair
-  pub pair_passed : {v : ℕ} → (Related relation u v → Passes expression body relation u v) → PairAnswer expression body relation u v Passed
+  pub pair_passed : {v : ℕ} → (Related relation u v → Passes expression body relation u v) → PairAnswer expression body relation u v (Ok tt)
   pair_passed h = record { passed = λ q. h; refused = λ p q. absurd (passed_refused refl q) }
 
-  pub pair_refused : {v : ℕ} {p : Place} → Related relation u v → FailsWith expression body relation u v (Refused p) → PairAnswer expression body relation u v (Refused p)
+  pub pair_refused : {v : ℕ} {p : Refusal} → Related relation u v → FailsWith expression body relation u v (Err p) → PairAnswer expression body relation u v (Err p)
   pair_refused r f = record { passed = λ q. absurd (passed_refused q refl); refused = λ p q. (r, f) }
 
   -- a row stops at a pair that is refused
-  pub row_stop : {v : ℕ} {s : Stage} {p : Place} → s ≡ Refused p → PairAnswer expression body relation u v s → ((w : ℕ) → w < v → Related relation u w → Passes expression body relation u w) → RowAnswer expression body relation u s
+  pub row_stop : {v : ℕ} {s : Result Unit Refusal} {p : Refusal} → s ≡ Err p → PairAnswer expression body relation u v s → ((w : ℕ) → w < v → Related relation u w → Passes expression body relation u w) → RowAnswer expression body relation u s
   row_stop {v} {s} {p} e a h = let (r, f) = a.refused p e in record { passed = λ q. absurd (passed_refused q e); refused = λ z q. (v, record { related = r; before = h; fails = f }) }
 
-  pub row_passed : ((v : ℕ) → Related relation u v → Passes expression body relation u v) → RowAnswer expression body relation u Passed
+  pub row_passed : ((v : ℕ) → Related relation u v → Passes expression body relation u v) → RowAnswer expression body relation u (Ok tt)
   row_passed h = record { passed = λ q. h; refused = λ p q. absurd (passed_refused refl q) }
 
   -- the search through the rows stops at a row that is refused
-  pub rows_stop : {s : Stage} {p : Place} → s ≡ Refused p → RowAnswer expression body relation u s → Related relation (start_of expression) (start_of body) → ((a : ℕ) → a < u → (w : ℕ) → Related relation a w → Passes expression body relation a w) → CheckedAnswer expression body relation s
+  pub rows_stop : {s : Result Unit Refusal} {p : Refusal} → s ≡ Err p → RowAnswer expression body relation u s → Related relation (start_of expression) (start_of body) → ((a : ℕ) → a < u → (w : ℕ) → Related relation a w → Passes expression body relation a w) → CheckedAnswer expression body relation s
   rows_stop {s} {p} e a z h = let (v, g) = a.refused p e in let (o, f, q) = g.fails in (o, fails_pair z g.related (earlier v g.before) f, q)
     where
       earlier : (v : ℕ) → ((w : ℕ) → w < v → Related relation u w → Passes expression body relation u w) → (x y : ℕ) → Earlier x y u v → Related relation x y → Passes expression body relation x y

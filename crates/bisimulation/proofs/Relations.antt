@@ -15,9 +15,9 @@ use Rattle.theory.specs.Relations.{indexed, RelationOutcome, PairFails, fails_43
 use Rattle.theory.proofs.Search.{same_or_earlier}
 use Rattle.theory.proofs.Tests.{not_so, decides_and, decides_eqb, decides_leb, first_pair}
 use Rattle.theory.proofs.Relations.{one_relation_outcome, related_iff_bisimulation, relation_checked}
-use Rattle.report.specs.declared.Place.TheVariants.{RelationLength, PairNoVertex}
-use Rattle.report.specs.declared.Stage.{Stage}
-use Rattle.report.specs.declared.Stage.TheVariants.{Passed, Refused}
+use Rattle.std.specs.Prelude.{Result, Ok, Err}
+use Rattle.report.specs.declared.Refusal.{Refusal}
+use Rattle.report.specs.declared.Refusal.TheVariants.{RelationLength, PairNoVertex}
 use Rattle.chart.specs.Bodies.{vertices_of, start_of}
 use Rattle.chart.specs.Systems.{system_of, indexed_of}
 use Rattle.chart.proofs.Relations.{indexed_member}
@@ -27,9 +27,9 @@ use Rattle.bisimulation.specs.RelationAnswers.{Comes, RelationAnswer, passed, ot
 use Rattle.bisimulation.proofs.RowLaws.{related_column, related_row}
 
 -- the answer of 40 to 45, with its place
-pub data Answers (e b relation : List ℕ) : Stage → Type 0 where
-  fails_40 : length relation ≢ 16 * vertices_of e → Answers e b relation (Refused (RelationLength (length relation)))
-  fails_41 : {u v : ℕ} → length relation ≡ 16 * vertices_of e → FirstPair (StrayBit b relation) u v → Answers e b relation (Refused (PairNoVertex u v))
+pub data Answers (e b relation : List ℕ) : Result Unit Refusal → Type 0 where
+  fails_40 : length relation ≢ 16 * vertices_of e → Answers e b relation (Err (RelationLength (length relation)))
+  fails_41 : {u v : ℕ} → length relation ≡ 16 * vertices_of e → FirstPair (StrayBit b relation) u v → Answers e b relation (Err (PairNoVertex u v))
   fitting : {o : RelationOutcome} → RelationFits e b relation → RelationChecked (indexed_of e) (indexed_of b) (Related relation) o → Answers e b relation (relation_stage e b o)
 
 -- THERE IS ONLY ONE ANSWER
@@ -45,7 +45,7 @@ module _ {e b relation : List ℕ} where
   stray_fits : {u v : ℕ} → FirstPair (StrayBit b relation) u v → ¬ RelationFits e b relation
   stray_fits {u} {v} f F = let (l, r) = f.holds in omega (arith, (F.inside u v r).1)
 
-  pub one_answer : {s t : Stage} → Answers e b relation s → Answers e b relation t → s ≡ t
+  pub one_answer : {s t : Result Unit Refusal} → Answers e b relation s → Answers e b relation t → s ≡ t
   one_answer (fails_40 h) (fails_40 g) = refl
   one_answer (fails_40 h) (fails_41 w f) = absurd (h w)
   one_answer (fails_40 h) (fitting F c) = absurd (h F.whole)
@@ -94,14 +94,14 @@ module _ (e b relation : List ℕ) where
       v : ℕ
       v = lowest (stray_bit_test b relation u) 0 128
 
-      go : (x y : Bool) → Decides x (length relation ≡ 16 * vertices_of e) → ltb u (vertices_of e) ≡ y → Answers e b relation (cond x (cond y (Refused (PairNoVertex u v)) (relation_stage e b (relation_outcome_of e b relation))) (Refused (RelationLength (length relation))))
+      go : (x y : Bool) → Decides x (length relation ≡ 16 * vertices_of e) → ltb u (vertices_of e) ≡ y → Answers e b relation (cond x (cond y (Err (PairNoVertex u v)) (relation_stage e b (relation_outcome_of e b relation))) (Err (RelationLength (length relation))))
       go false y d h = fails_40 (not_so d refl)
       go true true d h = fails_41 (d.0 refl) ((strays_found b relation (vertices_of e) (d.0 refl)).0 (ltb-true u (vertices_of e) h))
       go true false d h =
           let F = fits_of_lem (d.0 refl) ((strays_found b relation (vertices_of e) (d.0 refl)).1 (ltb-false u (vertices_of e) h)) in
           fitting F (outcome_checked F)
 
-pub relation_of_lem : {e b relation : List ℕ} {s : Stage} → Answers e b relation s → s ≡ relation_of e b relation
+pub relation_of_lem : {e b relation : List ℕ} {s : Result Unit Refusal} → Answers e b relation s → s ≡ relation_of e b relation
 relation_of_lem {e} {b} {relation} a = one_answer a (relation_answers e b relation)
 
 -- WHAT IT SAYS
@@ -142,7 +142,7 @@ module _ (e b relation : List ℕ) where
   outcome_answer F (fails_42 h) = starts_unrelated F h
   outcome_answer F (fails_pair s r g f) = pair_answer (record { fits = F; starts = s; related = r; earlier = g }) f
 
-  relation_answer : {s : Stage} → Answers e b relation s → RelationAnswer e b relation s
+  relation_answer : {s : Result Unit Refusal} → Answers e b relation s → RelationAnswer e b relation s
   relation_answer (fails_40 h) = other_length h
   relation_answer (fails_41 w f) = no_vertex w f
   relation_answer (fitting F c) = outcome_answer F c
@@ -151,7 +151,7 @@ module _ (e b relation : List ℕ) where
       → Answers e b relation (relation_stage e b o)
   pair_fails c f = fitting c.fits (fails_pair c.starts c.related c.earlier f)
 
-  answer_relation : {s : Stage} → RelationAnswer e b relation s → Answers e b relation s
+  answer_relation : {s : Result Unit Refusal} → RelationAnswer e b relation s → Answers e b relation s
   answer_relation (passed F B) = fitting F (related_iff_bisimulation.1 ((indexed_chart_lem e b (Related relation)).1 B))
   answer_relation (other_length h) = fails_40 h
   answer_relation (no_vertex w f) = fails_41 w f
@@ -161,22 +161,22 @@ module _ (e b relation : List ℕ) where
   answer_relation (chart_alone c h a l) = pair_fails c (fails_45 h a l)
 
   -- EACH ANSWER, with its place, stands exactly where what it says holds
-  pub relation_says : (s : Stage) → (relation_of e b relation ≡ s) ↔ RelationAnswer e b relation s
+  pub relation_says : (s : Result Unit Refusal) → (relation_of e b relation ≡ s) ↔ RelationAnswer e b relation s
   relation_says s = (
     (λ q. subst (RelationAnswer e b relation) q (relation_answer (relation_answers e b relation))),
     (λ h. one_answer (relation_answers e b relation) (answer_relation h)),
   )
 
   -- NOTHING FAILS EXACTLY FOR A BISIMULATION OF THE TWO CHARTS
-  pub relation_iff_bisimulation : (relation_of e b relation ≡ Passed)
+  pub relation_iff_bisimulation : (relation_of e b relation ≡ Ok tt)
       ↔ ((length relation ≡ 16 * vertices_of e) × ((u v : ℕ) → Related relation u v → (u < vertices_of e) × (v < vertices_of b))
       × Bisimulation (system_of e) (system_of b) (Related relation))
   relation_iff_bisimulation = (
-    (λ q. parts ((relation_says Passed).0 q)),
-    (λ (w, i, B). (relation_says Passed).1 (passed (record { whole = w; inside = i }) B)),
+    (λ q. parts ((relation_says (Ok tt)).0 q)),
+    (λ (w, i, B). (relation_says (Ok tt)).1 (passed (record { whole = w; inside = i }) B)),
   )
     where
-      parts : RelationAnswer e b relation Passed
+      parts : RelationAnswer e b relation (Ok tt)
           → (length relation ≡ 16 * vertices_of e) × ((u v : ℕ) → Related relation u v → (u < vertices_of e) × (v < vertices_of b))
           × Bisimulation (system_of e) (system_of b) (Related relation)
       parts (passed F B) = (F.whole, F.inside, B)

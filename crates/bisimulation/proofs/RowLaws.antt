@@ -1,12 +1,11 @@
 -- The rows of a relation as parts of its bytes: a bit stands only in a row that is there, and in one of its 128 columns.
 use mathlib.Core.Path.{◌≡◌, refl, sym, ap, ◌∙◌, subst}
 use mathlib.Core.Logic.{◌↔◌, by_cases}
-use mathlib.Core.Bool.{Bool, true, false, ◌&&◌, false≢true}
+use mathlib.Core.Bool.{false≢true}
 use mathlib.Core.List.{List, ◌++◌}
 use Prim.Native.Nat.{ℕ, zero, suc, ◌+◌, ◌-◌, ◌*◌, ◌/◌, ◌%◌, ◌≤◌, ◌<◌}
 use native.Mathlib.Decide.{dec_lt}
 use native.Mathlib.Omega.{arith}
-use lib.Dec.{eqb}
 use lib.ListN.{length, get_or, take, drop, length-append, length-take, length-drop}
 use lib.Seq.{get_or-take, get_or-drop, take-append_seam, drop-append-add}
 use borrow.Author.Tests.{eq-eqb, eqb-true}
@@ -19,7 +18,6 @@ use Rattle.bits.proofs.Powers.{has_past}
 use Rattle.bits.proofs.SetBytes.{set_length, set_bit}
 use Rattle.bisimulation.specs.Relations.{row_bytes, rows_from, related_test}
 use Rattle.bisimulation.specs.Answers.{Related}
-use Rattle.bisimulation.specs.Suspects.{SameRow}
 
 -- a bit stands in a byte of its row
 bit_in : (relation : List ℕ) (u v : ℕ) → Related relation u v → v / 8 < length (row_bytes relation u)
@@ -48,25 +46,6 @@ row_members relation u M = record { exactly = λ w l. let R = related_on relatio
 
 pub has_related : (relation : List ℕ) (u : ℕ) {r : Set} → Members (Related relation u) r → (w : ℕ) → Has r w ↔ Related relation u w
 has_related relation u M w = ((λ h. (M.exactly w h.below).0 h), (λ r. (M.exactly w (related_column relation u w r)).1 r))
-
--- `same_row`: sets with the same words
-pub both_same : (p q r s : ℕ) → (eqb p q && eqb r s) ≡ true → (p ≡ q) × (r ≡ s)
-both_same p q r s h = go (eqb p q) (eqb r s) refl refl h
-  where
-    go : (x y : Bool) → eqb p q ≡ x → eqb r s ≡ y → (x && y) ≡ true → (p ≡ q) × (r ≡ s)
-    go true true e f h = (eqb-true p q e, eqb-true r s f)
-    go true false e f h = absurd (false≢true h)
-    go false y e f h = absurd (false≢true h)
-
-same_has : (s t : Set) → s.lo ≡ t.lo → s.hi ≡ t.hi → (w : ℕ) → Has s w → Has t w
-same_has s t e f w h = record { below = h.below; on = rw (e, f) at h.on }
-
-pub same_sets : (relation : List ℕ) (a b : ℕ) {s t : Set} → Members (Related relation a) s → Members (Related relation b) t
-    → s.lo ≡ t.lo → s.hi ≡ t.hi → SameRow relation a b
-same_sets relation a b {s} {t} S T e f w l = (
-  (λ r. (T.exactly w l).0 (same_has s t e f w ((S.exactly w l).1 r))),
-  (λ r. (S.exactly w l).0 (same_has t s (sym e) (sym f) w ((T.exactly w l).1 r))),
-)
 
 -- THE ROWS THAT A TEST GIVES: their number, and their bits, which are those of the test
 pub rows_length : (t : RelationTest) (u n : ℕ) → length (rows_from t u n) ≡ 16 * n

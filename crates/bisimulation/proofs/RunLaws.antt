@@ -14,7 +14,8 @@ use Rattle.chart.specs.Bodies.{count_of, from_of, action_of, to_of, key_at, Well
 use Rattle.chart.specs.Leaving.{Begins}
 use Rattle.chart.proofs.Order.{at_mid}
 use Rattle.bisimulation.specs.Suspects.{Match}
-use Rattle.bisimulation.specs.Runs.{SameWords, Runs, OneSource, MatchedAlike, AlikeTo}
+use Rattle.bisimulation.specs.Suspects.{Stretch}
+use Rattle.bisimulation.specs.Runs.{SameWords, Runs, OneSource, MatchedAlike}
 
 -- `run_end`: w alone, and w before a run with its word
 pub run_one : (into : List ℕ) (w : ℕ) → SameWords into w (w + 1)
@@ -69,8 +70,8 @@ pub same_match : {into body : List ℕ} (acting : List ℕ) {i j : ℕ} (k : ℕ
 same_match acting k S (p, q) = (rw S.words at p, rw S.actions at q)
 
 -- `past_alike`: transition i alone
-pub alike_one : (until body : List ℕ) {i b : ℕ} → i < b → AlikeTo until body i b (i + 1)
-alike_one until body {i} l into R = record {
+pub alike_one : (into body : List ℕ) {i b : ℕ} → i < b → Stretch (MatchedAlike into body i) b i (i + 1)
+alike_one into body {i} l = record {
   some = omega arith;
   within = omega arith;
   each = λ j f g. let e : j ≡ i = omega arith in rw e (record { actions = refl; words = refl });
@@ -98,9 +99,9 @@ module _ {body : List ℕ} (B : Bytes body) (W : WellFormed body) {i b : ℕ} (w
       (omega arith, omega arith, omega arith)
 
   -- where that of j is in the run of that of i
-  pub alike_up_to : (until : List ℕ) → to_of body j < get_or until (to_of body i) 0 → {r : ℕ} → i < r → r ≤ j + 1
-      → AlikeTo until body i b r
-  alike_up_to until t {r} f g into R = record {
+  pub alike_up_to : {into until : List ℕ} → Runs into until → to_of body j < get_or until (to_of body i) 0 → {r : ℕ} → i < r → r ≤ j + 1
+      → Stretch (MatchedAlike into body i) b i r
+  alike_up_to R t {r} f g = record {
     some = f;
     within = omega arith;
     each = λ x p q.

@@ -1,40 +1,22 @@
 -- Small charts: what the loops keep, and that their pairs pass.
-use mathlib.Core.Path.{◌≡◌, sym, ◌∙◌, subst}
+use mathlib.Core.Path.{◌≡◌, ◌∙◌}
 use mathlib.Core.Logic.{◌⊎◌, ⊎_elim}
 use mathlib.Core.List.{List}
 use Prim.Native.Nat.{ℕ, ◌+◌, ◌/◌}
 use native.Mathlib.Omega.{arith}
 use lib.ListN.{get_or}
-use Rattle.bits.specs.declared.sets.Set.{Set}
 use Rattle.bits.specs.Words.{On}
-use Rattle.bits.specs.Sets.{Has, Members}
 use Rattle.bits.proofs.Members.{zero_off}
-use Rattle.bits.proofs.Visits.{Visit}
-use Rattle.chart.specs.Bodies.{action_of, to_of, WellFormed}
+use Rattle.chart.specs.Bodies.{action_of, to_of}
 use Rattle.chart.specs.Leaving.{Begins}
 use Rattle.chart.specs.Numbered.{Lists}
 use Rattle.chart.proofs.Order.{at_mid, between}
 use Rattle.bisimulation.specs.Answers.{Related, Passes}
 use Rattle.bisimulation.specs.Suspects.{row_at}
 use Rattle.bisimulation.specs.Classes.{Stepped}
-use Rattle.bisimulation.specs.Small.{RowsGiven, StepFits, PairPassesBy, RowPassesBy, RowsPassBy}
-use Rattle.bisimulation.proofs.RowLaws.{related_row, related_column, has_related}
+use Rattle.bisimulation.specs.Small.{StepFits, RowsPassBy}
+use Rattle.bisimulation.proofs.RowLaws.{related_row, related_column}
 use Rattle.bisimulation.proofs.StepLaws.{pair_passes_lem}
-use Rattle.bisimulation.proofs.SuspectLaws.{Past, past_first, past_next}
-
--- the steps of a chart's vertex have keys, and their targets have rows
-pub rows_given : {keys words relation body begins : List ℕ} {m rows : ℕ} → Stepped keys words m rows relation → WellFormed body
-    → Begins body begins → RowsGiven keys words rows relation body begins
-rows_given S W R = record {
-  words_long = S.listed.words_long;
-  few = S.few;
-  whole = S.whole;
-  steps = λ u k on.
-      let l = S.listed.known u k on in
-      (omega (arith, S.listed.few, S.listed.keys_long), omega (arith, S.targets k l, S.whole));
-  formed = W;
-  parted = R;
-}
 
 -- `fitting`: steps that match transition i; none at first, then step k where the code found it so, with x and y for the
 -- action and the target that it read
@@ -52,23 +34,6 @@ fitting_more {keys} {relation} {body} {i} k r {x} {y} F e f R = record { each = 
   where
     new : (j : ℕ) → (j ≡ k) × (get_or keys k 0 / 256 ≡ x) × Related relation (row_at keys k) y → StepFits keys relation body i j
     new j (q, a, t) = rw q (record { action = a ∙ e; target = rw f at t })
-
--- `row_passes`: the vertices that are left no longer
-pub record PassedOf (keys relation body begins : List ℕ) (word u : ℕ) (s left : Set) : Type 0 where
-  pub each : (v : ℕ) → Past s left v → PairPassesBy keys relation body begins word u v
-
-pub passed_none : (keys relation body begins : List ℕ) (word u : ℕ) (s : Set) → PassedOf keys relation body begins word u s s
-passed_none keys relation body begins word u s = record { each = λ v p. absurd (past_first s v p) }
-
-module _ {keys relation body begins : List ℕ} {word u : ℕ} {s left : Set} (P : PassedOf keys relation body begins word u s left) where
-  pub passed_more : {v : ℕ} {fewer : Set} → Visit s left v fewer → PairPassesBy keys relation body begins word u v
-      → PassedOf keys relation body begins word u s fewer
-  passed_more {v} T p = record {
-    each = λ w h. ⊎_elim (P.each w) (λ e. subst (PairPassesBy keys relation body begins word u) (sym e) p) ((past_next T w).0 h);
-  }
-
-  pub passed_all : Members (Related relation u) s → ((v : ℕ) → ¬ Has left v) → RowPassesBy keys relation body begins word u
-  passed_all M E v r = P.each v ((has_related relation u M v).1 r, E v)
 
 -- every pair of a chart with these steps passes
 pub small_pairs : {keys words body relation begins e : List ℕ} {m rows : ℕ} → Lists e keys words m

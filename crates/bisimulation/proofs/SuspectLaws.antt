@@ -2,7 +2,7 @@
 use mathlib.Core.Path.{◌≡◌, refl, sym, ◌∙◌, subst}
 use mathlib.Core.Logic.{◌≢◌, ◌⊎◌, inl, inr, ⊎_elim, ◌↔◌, by_cases}
 use mathlib.Core.Bool.{Bool, true, false, not}
-use mathlib.Core.List.{List}
+use mathlib.Core.List.{List, ◌∷◌, Memᴰ}
 use Prim.Native.Nat.{ℕ, ◌+◌, ◌*◌, ◌/◌, ◌%◌, ◌^◌, ◌≤◌, ◌<◌}
 use native.Mathlib.Decide.{ℕ_discrete, dec_lt}
 use native.Mathlib.Omega.{arith}
@@ -10,10 +10,13 @@ use lib.ListN.{length, get_or, set, length-set, replicate}
 use lib.Seq.{get_or-set_same, get_or-set_other}
 use Rattle.bits.specs.Bits.{Bytes}
 use Rattle.bits.specs.declared.sets.Set.{Set}
+use Rattle.bits.specs.declared.walks.Numbers.{Numbers}
 use Rattle.bits.specs.Words.{On}
 use Rattle.bits.specs.Sets.{Has, Members, Union, Intersection, empty_set}
 use Rattle.bits.proofs.Members.{zero_off, ⊎_map}
 use Rattle.bits.proofs.Gains.{blank}
+use Rattle.bits.specs.Listed.{members_of}
+use Rattle.bits.proofs.Listed.{listed_member}
 use Rattle.bits.proofs.Visits.{Visit}
 use Rattle.chart.specs.Bodies.{count_of, action_of, to_of, WellFormed}
 use Rattle.chart.specs.Leaving.{Begins}
@@ -81,12 +84,20 @@ adds_as f A = record {
 pub cuts_as : {P Q : ℕ → Type 0} {x : ℕ} {a r : List ℕ} → ((w : ℕ) → P w ↔ Q w) → Cuts P x a r → Cuts Q x a r
 cuts_as f C = record { long = C.long; only = λ w k l on. let (p, q) = C.only w k l on in (p, λ z. q ((f w).1 z)) }
 
--- `spread_steps`: the members of a set that are left no longer
+-- `VertexSteps::spread`: the members of a set that are left no longer
 abbrev pub Past : Set → Set → ℕ → Type 0
 Past s left w = Has s w × (¬ Has left w)
 
 pub past_first : (s : Set) (w : ℕ) → ¬ Past s s w
 past_first s w (h, n) = n h
+
+-- what a walk over a set gives is below 128
+pub member_below : (s : Set) {v : ℕ} {l : List ℕ} → members_of s ≡ v ∷ l → v < 128
+member_below s {v} {l} e = omega (arith, (listed_member s v (subst (Memᴰ v) (sym e) (Memᴰ.head refl))).below)
+
+-- nor of a walk that begins
+pub past_none : {n : Numbers} {s : Set} → n ≡ record { left = s } → (w : ℕ) → ¬ Past s n.left w
+past_none {s = s} e w p = past_first s w (rw e at p)
 
 pub past_next : {s left fewer : Set} {v : ℕ} → Visit s left v fewer → (w : ℕ) → Past s fewer w ↔ (Past s left w ⊎ (w ≡ v))
 past_next {s} {left} {fewer} {v} T w =
@@ -105,7 +116,7 @@ into_none relation keys = record {
   exactly = λ w k l. ((λ on. absurd (zero_off k (rw (blank 128 w) at on))), (λ h. absurd (omega (arith, h.0))));
 }
 
--- `spread_class`: no class, a row that does not stand for its class, and one that does
+-- `ClassTables::spread_one`: no class, a row that does not stand for its class, and one that does
 pub spread_none : {relation keys class leading every some into all any : List ℕ} → Into relation keys 0 into → length all ≡ 128
     → length any ≡ 128 → Spread relation class leading every some 0 into all any
 spread_none I p q = record {
@@ -168,7 +179,7 @@ module _ {relation class leading every some into all any : List ℕ} {c : ℕ}
           (λ e. inr (has w (subst (λ (x : ℕ). Stands relation class x w) e t), subst (λ (x : ℕ). On (get_or leading x 0) k) e on))
           (λ e. inl ((S.come w k l).1 (d, omega arith, t, on))))
 
--- `spread_classes`: the rows from 1 on
+-- `ClassTables::spread`: the rows from 1 on
 pub rows_in_none : (relation class : List ℕ) {r : Set} → RowsIn relation class 1 r
 rows_in_none relation class c p l = absurd (omega arith)
 
@@ -229,9 +240,9 @@ pub record Sifting (into acting all any body begins : List ℕ) (related apart l
   pub others : (v : ℕ) → Past related left v → ¬ Has found v
       → PassesAt into acting all any body begins v
 
-pub sift_none : (into acting all any body begins : List ℕ) (related apart : Set)
-    → Sifting into acting all any body begins related apart related apart
-sift_none into acting all any body begins related apart = record { given = λ v h. h; others = λ v p n. absurd (past_first related v p) }
+pub sift_none : (into acting all any body begins : List ℕ) (apart : Set) {n : Numbers} {related : Set} → n ≡ record { left = related }
+    → Sifting into acting all any body begins related apart n.left apart
+sift_none into acting all any body begins apart e = record { given = λ v h. h; others = λ v p n. absurd (past_none e v p) }
 
 module _ {into acting all any body begins : List ℕ} {related apart left found : Set}
     (S : Sifting into acting all any body begins related apart left found) where
@@ -316,7 +327,7 @@ module _ {keys words relation class leading every some into all any : List ℕ} 
         let l = low u v r in
         let shared = S.common v k (get_or class u 0) (related_column relation u v r) (class_low u l) (stands u v l r) on in
         let (j, o, z) = (G.all u (positive u n) l).each k shared in
-        (j, o, same_step j k (T.listed.known u j o) h z);
+        (j, o, same_step j k (T.known u j o) h z);
     steps = λ u v k n r on.
         let l = low u v r in
         S.joined v k (get_or class u 0) (related_column relation u v r) (class_low u l) (stands u v l r) (G.any u k (positive u n) l on);
@@ -372,7 +383,7 @@ module _ {keys words relation into acting all any body begins : List ℕ} {m row
             let (k, on, M) = Q.met i f g in
             let a = B (4 * i + 4 + 1) in
             let (j, o, s) = J.common u v k n r ((A.exactly (action_of body i) k a).0 M.1).0 on in
-            (j, o, same_matches I A B W i j k h (T.listed.known u j o) s M);
+            (j, o, same_matches I A B W i j k h (T.known u j o) s M);
       }
 
   pair_clear : (u v : ℕ) → Related relation u v → ¬ Has r v → Clear into acting words body u v

@@ -68,7 +68,7 @@ pub columns_all : (relation : List ℕ) {among : Set} {t : List ℕ} (rows : ℕ
     → Table 128 (λ (v u : ℕ). (u < rows) × Column relation among v u) t → Table 128 (Column relation among) t
 columns_all relation rows e T = table_as (λ v u l m. ((λ h. h.1), (λ h. (related_row relation rows u v e h.1, h)))) T
 
--- `row_stretch`
+-- `stretch`
 pub same_itself : (relation : List ℕ) (i j : ℕ) → i ≤ j → j < i + 1 → SameRow relation i j
 same_itself relation i j l m w h = let e : j ≡ i = omega arith in rw e ((λ r. r), (λ r. r))
 

@@ -1,11 +1,9 @@
 -- What the stages of the checks 40 to 45 answer: the contracts of the code.
-use Rattle.std.specs.Prelude.{◌≡◌, true, List, ℕ, ◌*◌, ◌≤◌, ◌<◌, length}
+use Rattle.std.specs.Prelude.{◌≡◌, true, List, ℕ, ◌*◌, ◌≤◌, ◌<◌, length, Result, Ok, Err}
 use Rattle.theory.specs.Least.{FirstPair}
 use Rattle.theory.specs.Relations.{PairPasses, PairFails, RelationOutcome, RelationChecked}
-use Rattle.report.specs.declared.Place.{Place}
-use Rattle.report.specs.declared.Place.TheVariants.{PairNoVertex}
-use Rattle.report.specs.declared.Stage.{Stage}
-use Rattle.report.specs.declared.Stage.TheVariants.{Passed, Refused}
+use Rattle.report.specs.declared.Refusal.{Refusal}
+use Rattle.report.specs.declared.Refusal.TheVariants.{PairNoVertex}
 use Rattle.bits.specs.declared.sets.Set.{Set}
 use Rattle.bits.specs.Sets.{Has}
 use Rattle.chart.specs.Bodies.{vertices_of, start_of}
@@ -28,10 +26,10 @@ pub record RelationFits (expression body relation : List ℕ) : Type 0 where
   pub inside : (u v : ℕ) → Related relation u v → (u < vertices_of expression) × (v < vertices_of body)
 
 -- what 41 answers
-pub record StrayAnswer (body relation : List ℕ) (s : Stage) : Type 0 where
-  pub passed : s ≡ Passed → (u v : ℕ) → ¬ StrayBit body relation u v
-  pub refused : (p : Place) → s ≡ Refused p
-      → (u v : ℕ) × FirstPair (StrayBit body relation) u v × (s ≡ Refused (PairNoVertex u v))
+pub record StrayAnswer (body relation : List ℕ) (s : Result Unit Refusal) : Type 0 where
+  pub passed : s ≡ Ok tt → (u v : ℕ) → ¬ StrayBit body relation u v
+  pub refused : (p : Refusal) → s ≡ Err p
+      → (u v : ℕ) × FirstPair (StrayBit body relation) u v × (s ≡ Err (PairNoVertex u v))
 
 module _ (expression body relation : List ℕ) where
   -- 43 to 45 pass for one pair
@@ -43,36 +41,36 @@ module _ (expression body relation : List ℕ) where
   PassOutside r = (u v : ℕ) → Related relation u v → ¬ Has r v → Passes u v
 
   -- some outcome of a pair that fails stands for this answer
-  abbrev pub FailsWith : ℕ → ℕ → Stage → Type 0
+  abbrev pub FailsWith : ℕ → ℕ → Result Unit Refusal → Type 0
   FailsWith u v s = (o : RelationOutcome)
       × PairFails (indexed_of expression) (indexed_of body) (Related relation) u v o
       × (s ≡ relation_stage expression body o)
 
   -- what 43 to 45 answer for one pair
-  pub record PairAnswer (u v : ℕ) (s : Stage) : Type 0 where
-    pub passed : s ≡ Passed → Related relation u v → Passes u v
-    pub refused : (p : Place) → s ≡ Refused p → Related relation u v × FailsWith u v s
+  pub record PairAnswer (u v : ℕ) (s : Result Unit Refusal) : Type 0 where
+    pub passed : s ≡ Ok tt → Related relation u v → Passes u v
+    pub refused : (p : Refusal) → s ≡ Err p → Related relation u v × FailsWith u v s
 
   -- the first pair of row u that fails is that of column v
-  pub record FirstFails (u v : ℕ) (s : Stage) : Type 0 where
+  pub record FirstFails (u v : ℕ) (s : Result Unit Refusal) : Type 0 where
     pub related : Related relation u v
     pub before : (w : ℕ) → w < v → Related relation u w → Passes u w
     pub fails : FailsWith u v s
 
   -- what they answer for the pairs of row u, by column
-  pub record RowAnswer (u : ℕ) (s : Stage) : Type 0 where
-    pub passed : s ≡ Passed → (v : ℕ) → Related relation u v → Passes u v
-    pub refused : (p : Place) → s ≡ Refused p → (v : ℕ) × FirstFails u v s
+  pub record RowAnswer (u : ℕ) (s : Result Unit Refusal) : Type 0 where
+    pub passed : s ≡ Ok tt → (v : ℕ) → Related relation u v → Passes u v
+    pub refused : (p : Refusal) → s ≡ Err p → (v : ℕ) × FirstFails u v s
 
   -- what 42 to 45 answer
-  abbrev pub CheckedAnswer : Stage → Type 0
+  abbrev pub CheckedAnswer : Result Unit Refusal → Type 0
   CheckedAnswer s = (o : RelationOutcome)
       × RelationChecked (indexed_of expression) (indexed_of body) (Related relation) o
       × (s ≡ relation_stage expression body o)
 
 -- the expression's chart has so many vertices and these steps, and 40 to 42 pass
 pub record ListedChart (keys words : List ℕ) (m vertices : ℕ) (body relation expression : List ℕ) : Type 0 where
-  pub passes : check_of expression ≡ Passed
+  pub passes : check_of expression ≡ Ok tt
   pub size : vertices_of expression ≡ vertices
   pub lists : Lists expression keys words m
   pub fits : RelationFits expression body relation
@@ -80,7 +78,7 @@ pub record ListedChart (keys words : List ℕ) (m vertices : ℕ) (body relation
 
 -- the same with these numbers of its steps
 pub record NumberedChart (keys words : List ℕ) (m vertices : ℕ) (body relation expression : List ℕ) : Type 0 where
-  pub passes : check_of expression ≡ Passed
+  pub passes : check_of expression ≡ Ok tt
   pub size : vertices_of expression ≡ vertices
   pub numbered : Numbered expression keys words m
   pub fits : RelationFits expression body relation
@@ -101,7 +99,7 @@ Doubtful keys words m vertices body relation r =
     (e : List ℕ) → ListedChart keys words m vertices body relation e → PassOutside e body relation r
 
 -- what 43 to 45 answer, for every chart with these numbers for which every pair outside the set passes
-abbrev pub PairsAnswer : (keys words : List ℕ) → (m vertices : ℕ) → (body relation : List ℕ) → Set → Stage → Type 0
+abbrev pub PairsAnswer : (keys words : List ℕ) → (m vertices : ℕ) → (body relation : List ℕ) → Set → Result Unit Refusal → Type 0
 PairsAnswer keys words m vertices body relation suspects s =
     (e : List ℕ) → NumberedChart keys words m vertices body relation e → PassOutside e body relation suspects
     → s ≡ relation_of e body relation

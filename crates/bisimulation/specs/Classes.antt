@@ -4,7 +4,6 @@ use Rattle.std.specs.Prelude.{◌≡◌, ◌≢◌, ◌⊎◌, ◌↔◌, List, 
 use Rattle.bits.specs.declared.sets.Set.{Set}
 use Rattle.bits.specs.Words.{On}
 use Rattle.bits.specs.Sets.{Has}
-use Rattle.chart.specs.Numbered.{Listed}
 use Rattle.bisimulation.specs.Answers.{Related}
 use Rattle.bisimulation.specs.Suspects.{SameRow, row_at, Sorted, Match}
 
@@ -40,6 +39,10 @@ pub record Alike (keys class : List ℕ) (j k : ℕ) : Type 0 where
   pub actions : get_or keys j 0 / 256 ≡ get_or keys k 0 / 256
   pub targets : class_at keys class j ≡ class_at keys class k
 
+-- the word has only steps below m
+abbrev pub StepsBelow : (m word : ℕ) → Type 0
+StepsBelow m word = (k : ℕ) → On word k → k < m
+
 -- each step of r is alike to one of the word
 pub record Saturated (keys class : List ℕ) (word r : ℕ) : Type 0 where
   pub each : (k : ℕ) → On r k → (j : ℕ) × On word j × Alike keys class j k
@@ -51,14 +54,6 @@ pub record ClassSteps (keys words class : List ℕ) (n : ℕ) (every some : List
   pub some_long : length some ≡ 128
   pub all : (u : ℕ) → 0 < u → u < n → Saturated keys class (get_or words u 0) (get_or every (get_or class u 0) 0)
   pub any : (u k : ℕ) → 0 < u → u < n → On (get_or words u 0) k → On (get_or some (get_or class u 0) 0) k
-
--- a class for each row, and words for each class
-pub record ClassTables (class leading every some : List ℕ) : Type 0 where
-  pub class_long : length class ≡ 128
-  pub class_few : (u : ℕ) → get_or class u 0 < 128
-  pub leading_long : length leading ≡ 128
-  pub every_long : length every ≡ 128
-  pub some_long : length some ≡ 128
 
 -- TABLES OF WORDS
 -- the bits of x have come into the words of a with P
@@ -121,7 +116,11 @@ pub record Apart (row related r : Set) : Type 0 where
 
 -- the steps of a chart, and a relation with a row for each of its vertices
 pub record Stepped (keys words : List ℕ) (m rows : ℕ) (relation : List ℕ) : Type 0 where
-  pub listed : Listed keys words m
+  pub steps_few : m ≤ 64
+  pub keys_long : length keys ≡ 128
+  pub words_long : length words ≡ 128
+  pub fit : (k : ℕ) → k < m → get_or keys k 0 < 65536
+  pub known : (u : ℕ) → StepsBelow m (get_or words u 0)
   pub targets : (k : ℕ) → k < m → row_at keys k < rows
   pub end : (k : ℕ) → ¬ On (get_or words 0 0) k
   pub whole : length relation ≡ 16 * rows

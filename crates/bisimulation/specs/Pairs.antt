@@ -1,19 +1,12 @@
 -- 43 to 45 of the pairs that the sets leave: what the search is given, and what it answers.
-use Rattle.std.specs.Prelude.{◌≡◌, List, ℕ, ◌<◌, length}
-use Rattle.report.specs.declared.Stage.{Stage}
+use Rattle.std.specs.Prelude.{◌≡◌, List, ℕ, ◌<◌, Result}
+use Rattle.report.specs.declared.Refusal.{Refusal}
 use Rattle.bits.specs.Words.{On}
 use Rattle.bits.specs.Tables.{HasRow}
 use Rattle.chart.specs.Bodies.{vertices_of, start_of, WellFormed}
-use Rattle.chart.specs.Leaving.{Begins}
 use Rattle.chart.specs.Numbered.{Numbered}
 use Rattle.bisimulation.specs.Answers.{Related, RelationFits, Passes, PairAnswer, RowAnswer, CheckedAnswer}
-use Rattle.bisimulation.specs.Suspects.{Into, Acting, Tabled, Match}
-
--- what the code reads: the tables, and where the transitions of each vertex begin
-pub record Ready (into acting words body begins : List ℕ) : Type 0 where
-  pub tabled : Tabled into acting body
-  pub words_long : length words ≡ 128
-  pub parted : Begins body begins
+use Rattle.bisimulation.specs.Suspects.{Into, Acting, Match}
 
 -- no step of the word matches transition i
 abbrev pub Alone : (into acting body : List ℕ) → (steps i : ℕ) → Type 0
@@ -36,19 +29,19 @@ pub record Sought (into acting words table body e relation : List ℕ) : Type 0 
   pub others : (u v : ℕ) → Related relation u v → ¬ HasRow table v u → Passes e body relation u v
 
 -- what 43 to 45 answer of every such chart and relation: for a related pair, for a pair, for a row, and for all
-abbrev pub RelatedAnswer : (into acting words body : List ℕ) → (u v : ℕ) → Stage → Type 0
+abbrev pub RelatedAnswer : (into acting words body : List ℕ) → (u v : ℕ) → Result Unit Refusal → Type 0
 RelatedAnswer into acting words body u v s = (e relation : List ℕ) → StepTables into acting words e relation
     → Related relation u v → PairAnswer e body relation u v s
 
-abbrev pub PairSought : (into acting words table body : List ℕ) → (u v : ℕ) → Stage → Type 0
+abbrev pub PairSought : (into acting words table body : List ℕ) → (u v : ℕ) → Result Unit Refusal → Type 0
 PairSought into acting words table body u v s = (e relation : List ℕ) → Sought into acting words table body e relation
     → PairAnswer e body relation u v s
 
-abbrev pub RowSought : (into acting words table body : List ℕ) → ℕ → Stage → Type 0
+abbrev pub RowSought : (into acting words table body : List ℕ) → ℕ → Result Unit Refusal → Type 0
 RowSought into acting words table body u s = (e relation : List ℕ) → Sought into acting words table body e relation
     → RowAnswer e body relation u s
 
-abbrev pub AllSought : (into acting words table body : List ℕ) → ℕ → Stage → Type 0
+abbrev pub AllSought : (into acting words table body : List ℕ) → ℕ → Result Unit Refusal → Type 0
 AllSought into acting words table body vertices s = (e relation : List ℕ)
     → Sought into acting words table body e relation
     → vertices_of e ≡ vertices

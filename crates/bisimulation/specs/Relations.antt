@@ -1,13 +1,11 @@
 -- The checks 40 to 45 of a relation between the expression's chart and the file's chart, both given as chart bodies.
-use Rattle.std.specs.Prelude.{Bool, cond, ◌&&◌, List, [], ◌++◌, ℕ, zero, suc, ◌*◌, eqb, ltb, leb, length, take, drop}
+use Rattle.std.specs.Prelude.{Bool, cond, ◌&&◌, List, [], ◌++◌, ℕ, zero, suc, ◌*◌, eqb, ltb, leb, length, take, drop, Result, Ok, Err}
 use Rattle.theory.specs.Tests.{first_row, lowest}
 use Rattle.theory.specs.Relations.{RelationOutcome}
 use Rattle.theory.specs.Relations.{related, starts_apart, ends_apart, left_unmatched, right_unmatched}
 use Rattle.theory.specs.RelationTests.{RelationTest, relation_outcome}
-use Rattle.report.specs.declared.Place.TheVariants.{RelationLength, PairNoVertex, PairStarts}
-use Rattle.report.specs.declared.Place.TheVariants.{PairEnds, PairExpressionStep, PairChartStep}
-use Rattle.report.specs.declared.Stage.{Stage}
-use Rattle.report.specs.declared.Stage.TheVariants.{Passed, Refused}
+use Rattle.report.specs.declared.Refusal.{Refusal}
+use Rattle.report.specs.declared.Refusal.TheVariants.{RelationLength, PairNoVertex, PairStarts, PairEnds, PairExpressionStep, PairChartStep}
 use Rattle.bits.specs.Bits.{has_bit, set_bytes}
 use Rattle.chart.specs.Bodies.{vertices_of, start_of}
 use Rattle.chart.specs.Systems.{indexed_of}
@@ -30,12 +28,12 @@ unfoldable pub stray_bit_test : List ℕ → List ℕ → ℕ → ℕ → Bool
 stray_bit_test body relation u v = leb (vertices_of body) v && related_test relation u v
 
 -- document 01's answer for each outcome of the checks 42 to 45
-abbrev pub relation_stage : List ℕ → List ℕ → RelationOutcome → Stage
-relation_stage expression body related = Passed
-relation_stage expression body starts_apart = Refused (PairStarts (start_of expression) (start_of body))
-relation_stage expression body (ends_apart p q) = Refused (PairEnds p q)
-relation_stage expression body (left_unmatched p q r) = Refused (PairExpressionStep p q r)
-relation_stage expression body (right_unmatched p q r) = Refused (PairChartStep p q r)
+abbrev pub relation_stage : List ℕ → List ℕ → RelationOutcome → Result Unit Refusal
+relation_stage expression body related = Ok tt
+relation_stage expression body starts_apart = Err (PairStarts (start_of expression) (start_of body))
+relation_stage expression body (ends_apart p q) = Err (PairEnds p q)
+relation_stage expression body (left_unmatched p q r) = Err (PairExpressionStep p q r)
+relation_stage expression body (right_unmatched p q r) = Err (PairChartStep p q r)
 
 unfoldable pub relation_outcome_of : List ℕ → List ℕ → List ℕ → RelationOutcome
 relation_outcome_of expression body relation =
@@ -43,21 +41,21 @@ relation_outcome_of expression body relation =
     (vertices_of expression) (vertices_of body)
 
 -- 40, then 41, then 42 to 45. The rows are the vertices of the expression's chart, and 128 columns have a bit
-unfoldable pub relation_of : List ℕ → List ℕ → List ℕ → Stage
+unfoldable pub relation_of : List ℕ → List ℕ → List ℕ → Result Unit Refusal
 relation_of expression body relation =
     let u = first_row (stray_bit_test body relation) (vertices_of expression) 128 in
     cond (eqb (length relation) (16 * vertices_of expression))
     (cond (ltb u (vertices_of expression))
-    (Refused (PairNoVertex u (lowest (stray_bit_test body relation u) 0 128)))
+    (Err (PairNoVertex u (lowest (stray_bit_test body relation u) 0 128)))
     (relation_stage expression body (relation_outcome_of expression body relation)))
-    (Refused (RelationLength (length relation)))
+    (Err (RelationLength (length relation)))
 
 -- 40, 41 and 42 alone, which ask only for the number of the expression's vertices and its start
-unfoldable pub opening_of : (vertices start : ℕ) → (body relation : List ℕ) → Stage
+unfoldable pub opening_of : (vertices start : ℕ) → (body relation : List ℕ) → Result Unit Refusal
 opening_of vertices start body relation =
     let u = first_row (stray_bit_test body relation) vertices 128 in
     cond (eqb (length relation) (16 * vertices))
     (cond (ltb u vertices)
-    (Refused (PairNoVertex u (lowest (stray_bit_test body relation u) 0 128)))
-    (cond (related_test relation start (start_of body)) Passed (Refused (PairStarts start (start_of body)))))
-    (Refused (RelationLength (length relation)))
+    (Err (PairNoVertex u (lowest (stray_bit_test body relation u) 0 128)))
+    (cond (related_test relation start (start_of body)) (Ok tt) (Err (PairStarts start (start_of body)))))
+    (Err (RelationLength (length relation)))

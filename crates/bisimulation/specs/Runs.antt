@@ -2,7 +2,6 @@
 -- code.
 use Rattle.std.specs.Prelude.{◌≡◌, List, ℕ, ◌≤◌, ◌<◌, length, get_or}
 use Rattle.chart.specs.Bodies.{from_of, action_of, to_of}
-use Rattle.bisimulation.specs.Suspects.{Stretch}
 
 -- the words from a up to b are all the same
 pub record SameWords (into : List ℕ) (a b : ℕ) : Type 0 where
@@ -26,7 +25,3 @@ pub record OneSource (body : List ℕ) (a b : ℕ) : Type 0 where
 pub record MatchedAlike (into body : List ℕ) (i j : ℕ) : Type 0 where
   pub actions : action_of body i ≡ action_of body j
   pub words : get_or into (to_of body i) 0 ≡ get_or into (to_of body j) 0
-
--- by every table with these runs, the steps that match transition i match those from i up to r, and b is not passed
-abbrev pub AlikeTo : (until body : List ℕ) → (i b r : ℕ) → Type 0
-AlikeTo until body i b r = (into : List ℕ) → Runs into until → Stretch (MatchedAlike into body i) b i r

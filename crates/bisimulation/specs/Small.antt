@@ -1,25 +1,10 @@
 -- 43 to 45 of each pair straight by the keys of the steps: the contracts of the code.
-use Rattle.std.specs.Prelude.{◌≡◌, List, ℕ, ◌+◌, ◌*◌, ◌/◌, ◌≤◌, ◌<◌, length, get_or}
+use Rattle.std.specs.Prelude.{◌≡◌, List, ℕ, ◌+◌, ◌/◌, ◌<◌, get_or}
 use Rattle.theory.specs.Relations.{EndsAgree}
-use Rattle.bits.specs.Words.{On}
-use Rattle.chart.specs.Bodies.{action_of, to_of, WellFormed}
-use Rattle.chart.specs.Leaving.{Begins}
+use Rattle.chart.specs.Bodies.{action_of, to_of}
 use Rattle.bisimulation.specs.Answers.{Related}
 use Rattle.bisimulation.specs.Suspects.{row_at}
 use Rattle.bisimulation.specs.Classes.{Passing}
-
--- the steps of the word have keys, and their targets have rows
-abbrev pub HaveRows : (keys relation : List ℕ) → ℕ → Type 0
-HaveRows keys relation word = (k : ℕ) → On word k → (k < length keys) × (16 * row_at keys k + 16 ≤ length relation)
-
--- what the code is given: steps for each row, and a chart
-pub record RowsGiven (keys words : List ℕ) (rows : ℕ) (relation body begins : List ℕ) : Type 0 where
-  pub words_long : length words ≡ 128
-  pub few : rows ≤ 128
-  pub whole : length relation ≡ 16 * rows
-  pub steps : (u : ℕ) → HaveRows keys relation (get_or words u 0)
-  pub formed : WellFormed body
-  pub parted : Begins body begins
 
 -- step k has the action of transition i, and a target that is related to its target
 pub record StepFits (keys relation body : List ℕ) (i k : ℕ) : Type 0 where

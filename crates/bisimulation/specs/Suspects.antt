@@ -5,7 +5,7 @@ use Rattle.bits.specs.declared.sets.Set.{Set}
 use Rattle.bits.specs.Words.{On}
 use Rattle.bits.specs.Sets.{Has, Members}
 use Rattle.bits.specs.Tables.{HasRow, InSome}
-use Rattle.chart.specs.Bodies.{count_of, from_of, action_of, to_of, WellFormed}
+use Rattle.chart.specs.Bodies.{count_of, from_of, action_of, to_of}
 use Rattle.bisimulation.specs.declared.clearing.Latest.{Latest}
 use Rattle.bisimulation.specs.declared.clearing.Matches.{Matches}
 use Rattle.bisimulation.specs.Answers.{Related}
@@ -60,12 +60,6 @@ abbrev pub Used : List ℕ → ℕ → ℕ → Type 0
 Used words rows r = (u k : ℕ) → u < rows → On (get_or words u 0) k → On r k
 
 -- THE SEARCH
--- what it is given: tables that are long enough, and a chart
-pub record Tabled (into acting body : List ℕ) : Type 0 where
-  pub into_long : length into ≡ 128
-  pub acting_long : length acting ≡ 256
-  pub formed : WellFormed body
-
 -- by the tables, step k matches transition i of the body
 abbrev pub Match : (into acting body : List ℕ) → ℕ → ℕ → Type 0
 Match into acting body i k = On (get_or into (to_of body i) 0) k × On (get_or acting (action_of body i) 0) k

@@ -1,16 +1,13 @@
 // 43 to 45 by the tables: which rows pass with a chart vertex, all rows of its column at once.
-ghost use Rattle.std.specs.Prelude.{◌≡◌, ◌↔◌, ℕ, ◌≤◌, ◌<◌, length};
-ghost use Rattle.bits.specs.Words.{On};
+ghost use Rattle.std.specs.Prelude.{◌≡◌, ◌+◌, ◌<◌, get_or, replicate};
 ghost use Rattle.bits.specs.Sets.{Members};
 ghost use Rattle.bits.specs.Tables.{InSome};
-ghost use Rattle.chart.specs.Bodies.{vertices_of, count_of};
-ghost use Rattle.chart.specs.Leaving.{Begins};
-ghost use Rattle.bisimulation.specs.Suspects.{Tabled, Match, Knows, Walked, SameEnd, Refusable, Gathered};
-ghost use Rattle.bisimulation.specs.Runs.{Runs, OneSource};
+ghost use Rattle.chart.specs.Bodies.{vertices_of};
+ghost use Rattle.bisimulation.specs.Suspects.{Knows, Walked, SameEnd, Refusable, Gathered};
 
-use super::runs::past_alike;
+use super::matching::Tables;
 use bits::tables::{put_row, row, united};
-use bits::{Set, bit_and, bit_and_not, bit_or, byte};
+use bits::{Set, bit_and_not, bit_or};
 
 // Steps, and the rows with one of them.
 #[derive(Clone, Copy)]
@@ -19,94 +16,11 @@ pub struct Latest {
     pub rows: Set,
 }
 
-// Steps, rows that have a step for each transition, and what is known of the last steps.
+// Steps, and rows that have a step for each transition.
 #[derive(Clone, Copy)]
 pub struct Matches {
     pub matched: u64,
     pub able: Set,
-    pub known: Latest,
-}
-
-// Rows that may be refused, and what is known.
-#[derive(Clone, Copy)]
-pub struct Refusals {
-    pub rows: Set,
-    pub known: Latest,
-}
-
-// The steps that match transition i: its action, and a target that is related to its target.
-pub(crate) fn matching(into: &[u64; 128], acting: &[u64; 256], body: &[u8], i: usize) -> u64
-    requires { Tabled into.now acting.now body.now × (i < count_of body.now) }
-    ensures { (k : ℕ) → On result k ↔ Match into.now acting.now body.now i k }
-{
-    let p = 4 * i + 4;
-    bit_and(into[byte(body, p + 2)], acting[byte(body, p + 1)])
-}
-
-// The rows with one of the steps, as they are known or found anew.
-fn rows_with(users: &[u64; 128], known: Latest, steps: u64) -> Set
-    requires { (length users.now ≡ 128) × Knows users.now known }
-    ensures { Members (InSome users.now steps) result }
-{
-    let rows = known.rows;
-    if known.steps == steps {
-        return rows;
-    }
-    united(users, steps)
-}
-
-// Of the transitions from a to b, the steps that match one of them, and the rows of the set that have a step for each
-// of them. Neighbours often have the same steps, and then nothing changes; those of a run are passed over.
-fn walk(
-    into: &[u64; 128],
-    acting: &[u64; 256],
-    users: &[u64; 128],
-    until: &[u8; 128],
-    body: &[u8],
-    a: usize,
-    b: usize,
-    set: Set,
-    known: Latest,
-) -> Matches
-    requires { Tabled into.now acting.now body.now
-        × (length users.now ≡ 128)
-        × (a ≤ b)
-        × (b ≤ count_of body.now)
-        × Runs into.now until.now
-        × OneSource body.now a b
-        × Knows users.now known }
-    ensures { Walked into.now acting.now users.now body.now
-        a b set result × Knows users.now result.known }
-{
-    if a >= b {
-        return Matches {
-            matched: 0,
-            able: set,
-            known,
-        };
-    }
-    let first = matching(into, acting, body, a);
-    let mut rows = rows_with(users, known, first);
-    let mut matched = first;
-    let mut last = first;
-    let mut able = set.intersection(rows);
-    let mut i = past_alike(until, body, a, b);
-    while i < b {
-        let next = matching(into, acting, body, i);
-        if next != last {
-            rows = united(users, next);
-            able = able.intersection(rows);
-            matched = bit_or(matched, next);
-            last = next;
-        }
-        i = past_alike(until, body, i, b);
-    }
-    let latest = Latest { steps: last, rows };
-    Matches {
-        matched,
-        able,
-        known: latest,
-    }
 }
 
 // 43: of a set, row 0 for vertex 0, and every other row for every other vertex.
@@ -119,98 +33,98 @@ fn same_ends(v: usize, set: Set) -> Set
     set.without(0)
 }
 
-// The rows of the set that 43, 44 or 45 may refuse with v.
-fn refusable(
-    into: &[u64; 128],
-    acting: &[u64; 256],
-    users: &[u64; 128],
-    used: u64,
-    until: &[u8; 128],
-    body: &[u8],
-    begins: &[usize; 129],
-    v: usize,
-    set: Set,
-    known: Latest,
-) -> Refusals
-    requires { Tabled into.now acting.now body.now
-        × (length users.now ≡ 128)
-        × Runs into.now until.now
-        × Begins body.now begins.now
-        × (v < 128)
-        × Knows users.now known }
-    ensures { Refusable into.now acting.now users.now used
-        body.now v set result.rows × Knows users.now result.known }
-{
-    if set.is_empty() {
-        return Refusals { rows: set, known };
-    }
-    let walked = walk(
-        into,
-        acting,
-        users,
-        until,
-        body,
-        begins[v],
-        begins[v + 1],
-        same_ends(v, set),
-        known,
-    );
-    let able = walked.able;
-    let latest = walked.known;
-    let unmatched = united(users, bit_and_not(used, walked.matched));
-    let rows = set.difference(able.difference(unmatched));
-    Refusals {
-        rows,
-        known: latest,
-    }
+// The tables, for each step the rows that have it, and the steps that a row has. Vertices often have the same steps, and
+// what is known of the latest goes from one to the next.
+#[derive(Clone, Copy)]
+pub struct Clearing<'a> {
+    pub tables: &'a Tables<'a>,
+    pub users: &'a [u64; 128],
+    pub used: u64,
 }
 
-// For each chart vertex the rows that 43, 44 or 45 may refuse with it. Vertices often have the same steps, and what is
-// known of them goes from one to the next.
-// Inlined, the table would lie on the stack twice.
-#[inline(never)]
-pub(crate) fn gather(
-    columns: &[u64; 256],
-    into: &[u64; 128],
-    acting: &[u64; 256],
-    users: &[u64; 128],
-    used: u64,
-    until: &[u8; 128],
-    body: &[u8],
-    begins: &[usize; 129],
-) -> [u64; 256]
-    requires { Tabled into.now acting.now body.now
-        × (length users.now ≡ 128)
-        × Runs into.now until.now
-        × Begins body.now begins.now
-        × (length columns.now ≡ 256) }
-    ensures { Gathered columns.now into.now acting.now users.now used
-        body.now (vertices_of body.now) result }
-{
-    let n = byte(body, 0);
-    let mut known = Latest {
-        steps: 0,
-        rows: Set::empty(),
-    };
-    let mut table = [0u64; 256];
-    let mut v: usize = 0;
-    while v < n {
-        let found = refusable(
-            into,
-            acting,
-            users,
-            used,
-            until,
-            body,
-            begins,
-            v,
-            row(columns, v),
-            known,
-        );
-        let rows = found.rows;
-        known = found.known;
-        put_row(&mut table, v, rows);
-        v += 1;
+impl Clearing<'_> {
+    // The rows with one of the steps, as they are known or found anew.
+    fn rows_with(&self, known: &mut Latest, steps: u64) -> Set
+        requires { Knows self.now.users.now known.old }
+        ensures rows { Members (InSome self.now.users.now steps) result }
+        ensures known { Knows self.now.users.now known.new }
+    {
+        if known.steps != steps {
+            let users = self.users;
+            known.rows = united(users, steps);
+            known.steps = steps;
+        }
+        known.rows
     }
-    table
+
+    // Of the transitions of v, the steps that match one of them, and the rows of the set that have a step for each of
+    // them. Neighbours often have the same steps, and then nothing changes; those of a run are passed over.
+    fn walk(&self, known: &mut Latest, v: usize, set: Set) -> Matches
+        requires { (v < 128) × Knows self.now.users.now known.old }
+        ensures { let t = self.now.tables.now in let k = t.chart.now in
+            Walked t.at.now.into t.acting.now self.now.users.now k.body.now (get_or k.begins.now v 0)
+            (get_or k.begins.now (v + 1) 0) set result
+            × Knows self.now.users.now known.new }
+    {
+        let tables = self.tables;
+        let a = tables.chart.begins[v];
+        let b = tables.chart.begins[v + 1];
+        if a >= b {
+            return Matches {
+                matched: 0,
+                able: set,
+            };
+        }
+        let mut matched = tables.matching(a);
+        let mut last = matched;
+        let mut able = set.intersection(self.rows_with(known, last));
+        let mut i = tables.past_alike(a, b);
+        // a turn ends where the steps may change
+        while i < b {
+            let next = tables.matching(i);
+            if next != last {
+                able = able.intersection(self.rows_with(known, next));
+                matched = bit_or(matched, next);
+                last = next;
+            }
+            i = tables.past_alike(i, b);
+        }
+        Matches { matched, able }
+    }
+
+    // The rows of the set that 43, 44 or 45 may refuse with v.
+    fn refusable(&self, known: &mut Latest, v: usize, set: Set) -> Set
+        requires { (v < 128) × Knows self.now.users.now known.old }
+        ensures { let t = self.now.tables.now in
+            Refusable t.at.now.into t.acting.now self.now.users.now self.now.used t.chart.now.body.now v set
+            result
+            × Knows self.now.users.now known.new }
+    {
+        if set.is_empty() {
+            return set;
+        }
+        let walked = self.walk(known, v, same_ends(v, set));
+        let able = walked.able;
+        let users = self.users;
+        let unmatched = united(users, bit_and_not(self.used, walked.matched));
+        set.difference(able.difference(unmatched))
+    }
+
+    // Puts into a table of zeros for each chart vertex the rows that 43, 44 or 45 may refuse with it.
+    pub(crate) fn gather(&self, columns: &[u64; 256], table: &mut [u64; 256])
+        requires { table.old ≡ replicate 256 0 }
+        ensures { let t = self.now.tables.now in
+            Gathered columns.now t.at.now.into t.acting.now self.now.users.now self.now.used t.chart.now.body.now
+            (vertices_of t.chart.now.body.now) table.new }
+    {
+        let n = self.tables.chart.vertices();
+        let mut known = Latest {
+            steps: 0,
+            rows: Set::empty(),
+        };
+        for v in 0..n {
+            let rows = self.refusable(&mut known, v, row(columns, v));
+            put_row(table, v, rows);
+        }
+    }
 }

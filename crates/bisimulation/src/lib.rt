@@ -3,177 +3,160 @@
 
 mod classes;
 mod clearing;
+mod matching;
 mod pairs;
-mod places;
 mod rows;
 mod runs;
 mod small;
+mod steps;
 mod suspects;
 mod tables;
 
-ghost use Rattle.std.specs.Prelude.{◌≡◌, true, ◌↔◌, ℕ, ◌*◌, ◌≤◌, ◌<◌, length};
+ghost use Rattle.std.specs.Prelude.{◌≡◌, true, ◌↔◌, ℕ, ◌≤◌, ◌<◌};
 ghost use Rattle.chart.specs.Checks.{check_of};
-ghost use Rattle.chart.specs.Leaving.{Begins};
 ghost use Rattle.bisimulation.specs.Relations.{opening_of};
 ghost use Rattle.bisimulation.specs.Answers.{StrayBit, StrayAnswer, SomeListed, SomeNumbered};
 ghost use Rattle.bisimulation.specs.Answers.{Doubtful, PairsAnswer};
 
 use bits::{Set, byte};
-use clearing::gather;
-use pairs::search;
-use report::{Place, Stage};
-use rows::{read_row, related};
+use chart::Chart;
+use clearing::Clearing;
+use matching::{Tables, VertexSteps};
+use pairs::Search;
+use report::Refusal;
+pub use rows::Relation;
 use runs::runs;
-use small::small_passes;
-use suspects::{fill_tables, suspects};
-use tables::{columns, used, users};
+pub use steps::Steps;
 
 // 41: the first bit for a vertex of V or above, by row and then by column.
-fn strays(body: &[u8], relation: &[u8], rows: usize) -> Stage
-    requires { (check_of body.now ≡ Stage.Passed) × (length relation.now ≡ 16 * rows) }
-    ensures { StrayAnswer body.now relation.now result }
+fn strays(body: &[u8], relation: &Relation) -> Result<(), Refusal>
+    requires { check_of body.now ≡ Ok tt }
+    ensures { StrayAnswer body.now relation.now.bytes.now result }
 {
     let inside = Set::below(byte(body, 0));
-    let mut u: usize = 0;
-    while u < rows {
-        let v = read_row(relation, u).difference(inside).lowest();
+    for u in 0..relation.rows {
+        let v = relation.row(u).difference(inside).lowest();
         if v < 128 {
-            return Stage::Refused(Place::PairNoVertex(u, v));
+            return Err(Refusal::PairNoVertex(u, v));
         }
-        u += 1;
     }
-    Stage::Passed
+    Ok(())
 }
 
 // Whether no row has a bit for a vertex of V or above, by all rows at once.
-fn all_inside(body: &[u8], relation: &[u8], rows: usize) -> bool
-    requires { (check_of body.now ≡ Stage.Passed) × (length relation.now ≡ 16 * rows) }
-    ensures { (result ≡ true) ↔ ((u v : ℕ) → ¬ StrayBit body.now relation.now u v) }
+fn all_inside(body: &[u8], relation: &Relation) -> bool
+    requires { check_of body.now ≡ Ok tt }
+    ensures { (result ≡ true) ↔ ((u v : ℕ) → ¬ StrayBit body.now relation.now.bytes.now u v) }
 {
     let mut all = Set::empty();
-    let mut u: usize = 0;
-    while u < rows {
-        all = all.union(read_row(relation, u));
-        u += 1;
+    for u in 0..relation.rows {
+        all = all.union(relation.row(u));
     }
     all.difference(Set::below(byte(body, 0))).is_empty()
 }
 
 // 40, 41 and 42, which ask only for the number of rows and the start.
-pub fn opening(vertices: usize, start: usize, body: &[u8], relation: &[u8]) -> Stage
-    requires { (check_of body.now ≡ Stage.Passed) × (vertices ≤ 128) × (start < vertices) }
+pub fn opening(vertices: usize, start: usize, body: &[u8], relation: &[u8]) -> Result<(), Refusal>
+    requires { (check_of body.now ≡ Ok tt) × (vertices ≤ 128) × (start < vertices) }
     ensures { result ≡ opening_of vertices start body.now relation.now }
 {
     if relation.len() != 16 * vertices {
-        return Stage::Refused(Place::RelationLength(relation.len()));
+        return Err(Refusal::RelationLength(relation.len()));
     }
-    if !all_inside(body, relation, vertices) {
-        return strays(body, relation, vertices);
+    let relation = Relation {
+        bytes: relation,
+        rows: vertices,
+    };
+    if !all_inside(body, &relation) {
+        return strays(body, &relation);
     }
     let q = byte(body, 1);
-    if !related(relation, start, q) {
-        return Stage::Refused(Place::PairStarts(start, q));
+    if !relation.related(start, q) {
+        return Err(Refusal::PairStarts(start, q));
     }
-    Stage::Passed
+    Ok(())
 }
 
 // The chart vertices that 43 to 45 may refuse, found by tables: for all rows of a vertex at once.
-fn doubtful_by_tables(
-    keys: &[usize; 128],
-    words: &[u64; 128],
-    m: usize,
-    vertices: usize,
-    body: &[u8],
-    begins: &[usize; 129],
-    relation: &[u8],
-) -> Set
-    requires { (check_of body.now ≡ Stage.Passed)
-        × Begins body.now begins.now
-        × SomeListed keys.now words.now m vertices body.now relation.now }
-    ensures { Doubtful keys.now words.now m vertices
-        body.now relation.now result }
+// Inlined, its tables and those of `check_pairs` would lie on one stack.
+#[inline(never)]
+fn doubtful_by_tables(steps: &Steps, chart: &Chart) -> Set
+    ensures { Doubtful steps.now.keys.now steps.now.words.now steps.now.count steps.now.relation.rows
+        chart.now.body.now steps.now.relation.bytes.now result }
 {
-    let mut into = [0u64; 128];
+    // here and in `check_pairs` each table lies on the stack once, and is lent to what fills it: answered by value it
+    // would be copied
+    let mut at = VertexSteps {
+        into: [0; 128],
+        all: [u64::MAX; 128],
+        any: [0; 128],
+    };
     let mut acting = [0u64; 256];
-    let mut all = [18446744073709551615u64; 128];
-    let mut any = [0u64; 128];
-    let related = fill_tables(
-        keys,
-        words,
-        m,
-        vertices,
-        relation,
-        &mut into,
-        &mut acting,
-        &mut all,
-        &mut any,
-    );
-    let until = runs(&into, body);
-    suspects(
-        &into, &acting, &all, &any, &until, body, begins, relation, related,
-    )
+    let related = steps.fill_tables(&mut at, &mut acting);
+    let mut until = [0u8; 128];
+    runs(&at.into, chart, &mut until);
+    let tables = Tables {
+        at: &at,
+        acting: &acting,
+        until: &until,
+        chart,
+    };
+    tables.suspects(&steps.relation, related)
 }
 
 // The chart vertices that 43 to 45 may refuse, where 40 to 42 pass: every pair of another vertex passes. The
 // expression's chart is given by its steps, in any order: it is not written.
-pub fn doubtful(
-    keys: &[usize; 128],
-    words: &[u64; 128],
-    m: usize,
-    vertices: usize,
-    body: &[u8],
-    begins: &[usize; 129],
-    relation: &[u8],
-) -> Set
-    requires { (check_of body.now ≡ Stage.Passed)
-        × Begins body.now begins.now
-        × SomeListed keys.now words.now m vertices body.now relation.now }
-    ensures { Doubtful keys.now words.now m vertices
-        body.now relation.now result }
+pub fn doubtful(steps: &Steps, chart: &Chart) -> Set
+    requires { SomeListed steps.now.keys.now steps.now.words.now steps.now.count steps.now.relation.rows
+        chart.now.body.now steps.now.relation.bytes.now }
+    ensures { Doubtful steps.now.keys.now steps.now.words.now steps.now.count steps.now.relation.rows
+        chart.now.body.now steps.now.relation.bytes.now result }
 {
-    if small_passes(keys, words, vertices, body, begins, relation) {
+    if steps.small_passes(chart) {
         return Set::empty();
     }
-    doubtful_by_tables(keys, words, m, vertices, body, begins, relation)
+    doubtful_by_tables(steps, chart)
 }
 
 // 43 to 45, where 40 to 42 pass and every pair outside the suspects does: the rows of the suspects are looked through.
 // The steps are in order here: the place of 44 needs it.
-pub fn check_pairs(
-    keys: &[usize; 128],
-    words: &[u64; 128],
-    m: usize,
-    vertices: usize,
-    body: &[u8],
-    begins: &[usize; 129],
-    relation: &[u8],
-    suspects: Set,
-) -> Stage
-    requires { (check_of body.now ≡ Stage.Passed)
-        × Begins body.now begins.now
-        × SomeNumbered keys.now words.now m vertices body.now relation.now suspects }
-    ensures { PairsAnswer keys.now words.now m vertices
-        body.now relation.now suspects result }
+#[inline(never)]
+pub fn check_pairs(steps: &Steps, chart: &Chart, suspects: Set) -> Result<(), Refusal>
+    requires { SomeNumbered steps.now.keys.now steps.now.words.now steps.now.count steps.now.relation.rows
+        chart.now.body.now steps.now.relation.bytes.now suspects }
+    ensures { PairsAnswer steps.now.keys.now steps.now.words.now steps.now.count steps.now.relation.rows
+        chart.now.body.now steps.now.relation.bytes.now suspects result }
 {
-    let mut into = [0u64; 128];
+    let mut at = VertexSteps {
+        into: [0; 128],
+        all: [u64::MAX; 128],
+        any: [0; 128],
+    };
     let mut acting = [0u64; 256];
-    let mut all = [18446744073709551615u64; 128];
-    let mut any = [0u64; 128];
-    fill_tables(
-        keys,
-        words,
-        m,
-        vertices,
-        relation,
-        &mut into,
-        &mut acting,
-        &mut all,
-        &mut any,
-    );
-    let until = runs(&into, body);
-    let columns = columns(relation, vertices, suspects);
-    let users = users(words, vertices);
-    let used = used(words, vertices);
-    let table = gather(&columns, &into, &acting, &users, used, &until, body, begins);
-    search(&into, &acting, words, &table, body, begins, vertices)
+    steps.fill_tables(&mut at, &mut acting);
+    let mut until = [0u8; 128];
+    runs(&at.into, chart, &mut until);
+    let tables = Tables {
+        at: &at,
+        acting: &acting,
+        until: &until,
+        chart,
+    };
+    let mut columns = [0u64; 256];
+    steps.relation.columns(suspects, &mut columns);
+    let mut users = [0u64; 128];
+    steps.users(&mut users);
+    let clearing = Clearing {
+        tables: &tables,
+        users: &users,
+        used: steps.used(),
+    };
+    let mut table = [0u64; 256];
+    clearing.gather(&columns, &mut table);
+    let search = Search {
+        tables: &tables,
+        steps,
+        table: &table,
+    };
+    search.run()
 }

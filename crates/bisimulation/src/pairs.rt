@@ -1,191 +1,136 @@
 // 43 to 45 of the pairs which the sets do not let pass, and the place of the first refusal.
-ghost use Rattle.std.specs.Prelude.{◌≡◌, ◌↔◌, ℕ, ◌≤◌, ◌<◌, length};
+ghost use Rattle.std.specs.Prelude.{◌↔◌, ℕ, ◌+◌, ◌<◌, get_or, IfSome, IsNone};
 ghost use Rattle.bits.specs.Words.{On};
 ghost use Rattle.bits.specs.First.{First};
 ghost use Rattle.bits.specs.Sets.{Members};
-ghost use Rattle.chart.specs.Bodies.{vertices_of, count_of};
-ghost use Rattle.bisimulation.specs.Suspects.{Tabled, MatchedIn};
-ghost use Rattle.bisimulation.specs.Pairs.{Ready, Alone};
 ghost use Rattle.bits.specs.Tables.{InFirst};
-ghost use Rattle.bisimulation.specs.Pairs.{RelatedAnswer, PairSought, RowSought, AllSought};
+ghost use Rattle.chart.specs.Bodies.{vertices_of};
+ghost use Rattle.bisimulation.specs.Suspects.{MatchedIn};
+ghost use Rattle.bisimulation.specs.Pairs.{Alone, RelatedAnswer, PairSought, RowSought, AllSought};
 
-use super::clearing::matching;
-use super::places::step_place;
+use super::matching::Tables;
+use super::steps::Steps;
 use bits::tables::{row, union_of};
-use bits::{Set, bit_and_not, bit_or, byte, lowest_bit, meets};
-use report::{Place, Stage};
+use bits::{Set, bit_and_not, bit_or, lowest_bit, meets};
+use report::Refusal;
 
-// The steps that match one of the transitions from a up to b.
-fn matched(into: &[u64; 128], acting: &[u64; 256], body: &[u8], a: usize, b: usize) -> u64
-    requires { Tabled into.now acting.now body.now × (a ≤ b) × (b ≤ count_of body.now) }
-    ensures { (k : ℕ) → On result k
-        ↔ MatchedIn into.now acting.now body.now a b k }
-{
-    let mut steps: u64 = 0;
-    let mut i = a;
-    while i < b {
-        steps = bit_or(steps, matching(into, acting, body, i));
-        i += 1;
-    }
-    steps
-}
-
-// Of the transitions from a up to b, the first that none of the steps matches; b where there is none.
-fn alone(
-    into: &[u64; 128],
-    acting: &[u64; 256],
-    body: &[u8],
-    a: usize,
-    b: usize,
-    steps: u64,
-) -> usize
-    requires { Tabled into.now acting.now body.now × (a ≤ b) × (b ≤ count_of body.now) }
-    ensures { First (Alone into.now acting.now body.now steps) a b result }
-{
-    let mut i = a;
-    while i < b {
-        if !meets(steps, matching(into, acting, body, i)) {
-            return i;
+impl Tables<'_> {
+    // The steps that match one of the transitions of v.
+    fn matched(&self, v: usize) -> u64
+        requires { v < 128 }
+        ensures { let k = self.now.chart.now in (j : ℕ) → On result j ↔ MatchedIn self.now.at.now.into
+            self.now.acting.now k.body.now (get_or k.begins.now v 0) (get_or k.begins.now (v + 1) 0) j }
+    {
+        let mut steps = 0;
+        for i in self.chart.begins[v]..self.chart.begins[v + 1] {
+            steps = bit_or(steps, self.matching(i));
         }
-        i += 1;
+        steps
     }
-    i
+
+    // Of the transitions of v, the first that none of the steps matches.
+    fn alone(&self, v: usize, steps: u64) -> Option<usize>
+        requires { v < 128 }
+        ensures some { let k = self.now.chart.now in IfSome result (λ i. (i < get_or k.begins.now (v + 1) 0)
+            × First (Alone self.now.at.now.into self.now.acting.now k.body.now steps)
+            (get_or k.begins.now v 0) (get_or k.begins.now (v + 1) 0) i) }
+        ensures none { let k = self.now.chart.now in IsNone result
+            → First (Alone self.now.at.now.into self.now.acting.now k.body.now steps)
+            (get_or k.begins.now v 0) (get_or k.begins.now (v + 1) 0) (get_or k.begins.now (v + 1) 0) }
+    {
+        for i in self.chart.begins[v]..self.chart.begins[v + 1] {
+            if !meets(steps, self.matching(i)) {
+                return Some(i);
+            }
+        }
+        None
+    }
 }
 
-// 43, 44 and 45 of a related pair.
-fn check_pair(
-    into: &[u64; 128],
-    acting: &[u64; 256],
-    words: &[u64; 128],
-    body: &[u8],
-    begins: &[usize; 129],
-    u: usize,
-    v: usize,
-) -> Stage
-    requires { Ready into.now acting.now words.now body.now begins.now × (u < 128) × (v < 128) }
-    ensures { RelatedAnswer into.now acting.now words.now body.now
-        u v result }
-{
-    if (u == 0) != (v == 0) {
-        return Stage::Refused(Place::PairEnds(u, v));
-    }
-    let a = begins[v];
-    let b = begins[v + 1];
-    let left = bit_and_not(words[u], matched(into, acting, body, a, b));
-    if left != 0 {
-        let i = step_place(words, u, lowest_bit(left));
-        return Stage::Refused(Place::PairExpressionStep(u, v, i));
-    }
-    let j = alone(into, acting, body, a, b, words[u]);
-    if j < b {
-        return Stage::Refused(Place::PairChartStep(u, v, j));
-    }
-    Stage::Passed
+// The tables, and for each chart vertex the rows that may be refused with it: every other pair passes.
+#[derive(Clone, Copy)]
+pub struct Search<'a> {
+    pub tables: &'a Tables<'a>,
+    pub steps: &'a Steps<'a>,
+    pub table: &'a [u64; 256],
 }
 
-// 43, 44 and 45 of a pair, where row u is in the set of v: every other pair passes.
-fn suspect_pair(
-    into: &[u64; 128],
-    acting: &[u64; 256],
-    words: &[u64; 128],
-    table: &[u64; 256],
-    body: &[u8],
-    begins: &[usize; 129],
-    u: usize,
-    v: usize,
-) -> Stage
-    requires { Ready into.now acting.now words.now body.now begins.now
-        × (length table.now ≡ 256)
-        × (u < 128)
-        × (v < vertices_of body.now) }
-    ensures { PairSought into.now acting.now words.now table.now
-        body.now u v result }
-{
-    if !row(table, v).contains(u) {
-        return Stage::Passed;
+impl Search<'_> {
+    // 43, 44 and 45 of a related pair.
+    fn check_pair(&self, u: usize, v: usize) -> Result<(), Refusal>
+        requires { (u < 128) × (v < 128) }
+        ensures { let t = self.now.tables.now in
+            RelatedAnswer t.at.now.into t.acting.now self.now.steps.now.words.now t.chart.now.body.now u v result }
+    {
+        if (u == 0) != (v == 0) {
+            return Err(Refusal::PairEnds(u, v));
+        }
+        let word = self.steps.words[u];
+        let left = bit_and_not(word, self.tables.matched(v));
+        if left != 0 {
+            let i = self.steps.place(u, lowest_bit(left));
+            return Err(Refusal::PairExpressionStep(u, v, i));
+        }
+        if let Some(j) = self.tables.alone(v, word) {
+            return Err(Refusal::PairChartStep(u, v, j));
+        }
+        Ok(())
     }
-    check_pair(into, acting, words, body, begins, u, v)
-}
 
-// 43, 44 and 45 of the pairs of row u, by column.
-fn check_row(
-    into: &[u64; 128],
-    acting: &[u64; 256],
-    words: &[u64; 128],
-    table: &[u64; 256],
-    body: &[u8],
-    begins: &[usize; 129],
-    u: usize,
-) -> Stage
-    requires { Ready into.now acting.now words.now body.now begins.now
-        × (length table.now ≡ 256)
-        × (u < 128) }
-    ensures { RowSought into.now acting.now words.now table.now
-        body.now u result }
-{
-    let columns = byte(body, 0);
-    let mut v: usize = 0;
-    while v < columns {
-        let answer = suspect_pair(into, acting, words, table, body, begins, u, v);
-        let Stage::Passed = answer else {
-            return answer;
-        };
-        v += 1;
+    // 43, 44 and 45 of a pair.
+    fn suspect_pair(&self, u: usize, v: usize) -> Result<(), Refusal>
+        requires { let t = self.now.tables.now in (u < 128) × (v < vertices_of t.chart.now.body.now) }
+        ensures { let t = self.now.tables.now in
+            PairSought t.at.now.into t.acting.now self.now.steps.now.words.now self.now.table.now
+            t.chart.now.body.now u v result }
+    {
+        let table = self.table;
+        if !row(table, v).contains(u) {
+            return Ok(());
+        }
+        self.check_pair(u, v)
     }
-    Stage::Passed
-}
 
-// 43, 44 and 45 of the pairs of row u, where it is in the set of the rows that may be refused.
-fn suspect_row(
-    into: &[u64; 128],
-    acting: &[u64; 256],
-    words: &[u64; 128],
-    table: &[u64; 256],
-    body: &[u8],
-    begins: &[usize; 129],
-    u: usize,
-    set: Set,
-) -> Stage
-    requires { Ready into.now acting.now words.now body.now begins.now
-        × (length table.now ≡ 256)
-        × (u < 128)
-        × Members (InFirst table.now 128) set }
-    ensures { RowSought into.now acting.now words.now table.now
-        body.now u result }
-{
-    if !set.contains(u) {
-        return Stage::Passed;
+    // 43, 44 and 45 of the pairs of row u, by column.
+    fn check_row(&self, u: usize) -> Result<(), Refusal>
+        requires { u < 128 }
+        ensures { let t = self.now.tables.now in
+            RowSought t.at.now.into t.acting.now self.now.steps.now.words.now self.now.table.now
+            t.chart.now.body.now u result }
+    {
+        for v in 0..self.tables.chart.vertices() {
+            self.suspect_pair(u, v)?;
+        }
+        Ok(())
     }
-    check_row(into, acting, words, table, body, begins, u)
-}
 
-// 43, 44 and 45 of every pair, by row: also at vertices that nothing reaches.
-pub(crate) fn search(
-    into: &[u64; 128],
-    acting: &[u64; 256],
-    words: &[u64; 128],
-    table: &[u64; 256],
-    body: &[u8],
-    begins: &[usize; 129],
-    vertices: usize,
-) -> Stage
-    requires { Ready into.now acting.now words.now body.now begins.now
-        × (length table.now ≡ 256)
-        × (vertices ≤ 128) }
-    ensures { AllSought into.now acting.now words.now table.now
-        body.now vertices result }
-{
-    let set = union_of(table, 128);
-    if set.is_empty() {
-        return Stage::Passed;
+    // 43, 44 and 45 of the pairs of row u, where it is in the set of the rows that may be refused.
+    fn suspect_row(&self, u: usize, set: Set) -> Result<(), Refusal>
+        requires { (u < 128) × Members (InFirst self.now.table.now 128) set }
+        ensures { let t = self.now.tables.now in
+            RowSought t.at.now.into t.acting.now self.now.steps.now.words.now self.now.table.now
+            t.chart.now.body.now u result }
+    {
+        if !set.contains(u) {
+            return Ok(());
+        }
+        self.check_row(u)
     }
-    let mut u: usize = 0;
-    while u < vertices {
-        let answer = suspect_row(into, acting, words, table, body, begins, u, set);
-        let Stage::Passed = answer else {
-            return answer;
-        };
-        u += 1;
+
+    // 43, 44 and 45 of every pair, by row: also at vertices that nothing reaches.
+    pub(crate) fn run(&self) -> Result<(), Refusal>
+        ensures { let t = self.now.tables.now in
+            AllSought t.at.now.into t.acting.now self.now.steps.now.words.now self.now.table.now
+            t.chart.now.body.now self.now.steps.now.relation.rows result }
+    {
+        let table = self.table;
+        let set = union_of(table, 128);
+        if set.is_empty() {
+            return Ok(());
+        }
+        for u in 0..self.steps.relation.rows {
+            self.suspect_row(u, set)?;
+        }
+        Ok(())
     }
-    Stage::Passed
 }

@@ -1,34 +1,27 @@
+use native.Mathlib.Omega.{arith}
 use mathlib.Core.Path.{◌≡◌, subst}
 use Prim.Native.Nat.{ℕ, ◌+◌, ◌-◌, ◌≤◌}
-use native.Mathlib.Omega.{arith}
 use Rattle.bisimulation.specs.Runs.{SameWords}
 use Rattle.bisimulation.proofs.RunLaws.{run_none, runs_none, runs_more}
 use Rattle.bisimulation.proofs.runs.runs.Goals as goal
 
-pub worthwhile-w-requires : goal.worthwhile-w-requires
-worthwhile-w-requires c = c.requires.1
+pub returns-then-not-worthwhile : goal.returns-then-not-worthwhile
+returns-then-not-worthwhile c = rw c.requires (runs_none _)
 
 pub loop-w-init : goal.loop-w-init
-loop-w-init c = (c.requires.0, omega arith, c.worthwhile-w.ensures, run_none _ _, runs_none _)
+loop-w-init c = (omega arith, c.vertices-n.ensures.2, run_none _ _, rw c.requires (runs_none _))
 
 pub run_end-end-requires : goal.run_end-end-requires
 run_end-end-requires c =
     let s = c.loop-w in
-    let k = c.args in
-    let e : s.w ≡ s.w - 1 + 1 = omega (arith, c.loop-w-test.true) in (
-      s.invariant.0,
-      omega (arith, s.invariant.1, c.loop-w-test.true),
-      s.invariant.2,
-      subst (λ (x : ℕ). SameWords k.into.now x s.end) e s.invariant.3,
-    )
+    let i = s.invariant in
+    let e : s.w ≡ s.w - 1 + 1 = omega (arith, c.loop-w-test.true) in
+    (omega (arith, i.0, c.loop-w-test.true), i.1, subst (λ (x : ℕ). SameWords c.args.into.now x s.end) e i.2)
 
 pub loop-w-preserved : goal.loop-w-preserved
 loop-w-preserved c =
     let s = c.loop-w in
     let i = s.invariant in
     let E = c.run_end-end.ensures in
-    let l : s.w - 1 ≤ 127 = omega (arith, i.1, i.2, c.loop-w-test.true) in
-    (i.0, omega (arith, E.0), E.1, E.2, runs_more i.4 (omega arith) E.1 E.2)
-
-pub returns : goal.returns
-returns c = c.loop-w.invariant.4
+    let l : s.w - 1 ≤ 127 = omega (arith, i.0, i.1, c.loop-w-test.true) in
+    (omega (arith, E.0), E.1, E.2, runs_more i.3 (omega arith) E.1 E.2)
