@@ -21,12 +21,11 @@ use Rattle.theory.proofs.Systems.{identity, lift_equal, equal_lift}
 use Rattle.theory.proofs.Followers.{shows_carried, responds_agree, responds_carried, responds_same, responds_within, responds_some, chart_closed}
 use Rattle.theory.proofs.Events.{restart_taken, event_taken, event_not_possible, event_spoilt, event_never_empties}
 use Rattle.theory.proofs.Runs.{view_shows, call_responds, chart_machine_lem}
-use Rattle.report.specs.declared.Followed.{Followed}
-use Rattle.report.specs.declared.Followed.TheVariants.{Taken, NotPossible, Refused}
-use Rattle.report.specs.declared.Place.{Place}
-use Rattle.report.specs.declared.Place.TheVariants as place
-use Rattle.report.specs.declared.Stage.{Stage}
-use Rattle.report.specs.declared.Stage.TheVariants as stage
+use Rattle.std.specs.Prelude.{Result, Ok, Err}
+use Rattle.report.specs.declared.Refusal.{Refusal}
+use Rattle.report.specs.declared.Refusal.TheVariants as refusal
+use Rattle.report.specs.declared.Response.{Response}
+use Rattle.report.specs.declared.Response.TheVariants.{NotPossible, Taken}
 use Rattle.report.specs.Numbers.{flag}
 use Rattle.report.proofs.NumberLaws.{flag_back}
 use Rattle.bits.specs.Bits.{Bytes, has_bit}
@@ -129,23 +128,23 @@ tests_state b f =
     below : (w : ℕ) → ¬ (vertices_of b ≤ w) → w < vertices_of b
     below w n = omega arith
 
-pub state_ready : {b : List ℕ} {f : Follower} → StateFits b f → state_stage b f ≡ stage.Passed
+pub state_ready : {b : List ℕ} {f : Follower} → StateFits b f → state_stage b f ≡ Ok tt
 state_ready {b} {f} p = rw ((tests_state b f).1 p) refl
 
-pub state_unready : {b : List ℕ} {f : Follower} → ¬ StateFits b f → state_stage b f ≡ stage.Refused place.FollowerSet
+pub state_unready : {b : List ℕ} {f : Follower} → ¬ StateFits b f → state_stage b f ≡ Err refusal.FollowerSet
 state_unready {b} {f} n = rw (is_false (tests_state b f) n) refl
 
 -- THE STAGES of a call: 20 and 21; 53; then the rule
 module _ (b : List ℕ) (f : Follower) (c : Call) where
-  pub called_refused : {p : Place} → check_of b ≡ stage.Refused p → called_on b f c ≡ moved (Refused p) f
+  pub called_refused : {p : Refusal} → check_of b ≡ Err p → called_on b f c ≡ moved (Err p) f
   unfolding called_on
   called_refused e = rw e refl
 
-  pub called_unready : {p : Place} → check_of b ≡ stage.Passed → ready_of b f c ≡ stage.Refused p → called_on b f c ≡ moved (Refused p) f
+  pub called_unready : {p : Refusal} → check_of b ≡ Ok tt → ready_of b f c ≡ Err p → called_on b f c ≡ moved (Err p) f
   unfolding called_on
   called_unready e r = rw (e, r) refl
 
-  pub called_ruled : check_of b ≡ stage.Passed → ready_of b f c ≡ stage.Passed → called_on b f c ≡ ruled_of b f c
+  pub called_ruled : check_of b ≡ Ok tt → ready_of b f c ≡ Ok tt → called_on b f c ≡ ruled_of b f c
   unfolding called_on
   called_ruled e r = rw (e, r) refl
 
@@ -355,13 +354,13 @@ module _ {b : List ℕ} (W : WellFormed b) where
 
 -- ONE CALL ON A STATE
 module _ (b : List ℕ) where
-  pub refused_not : {p : Place} → check_of b ≡ stage.Refused p → ¬ WellFormed b
-  refused_not {p} e W = let q : stage.Refused p ≡ stage.Passed = sym e ∙ passes b W in let z : ◌≡◌ {A = ℕ} 0 1 = cc in omega arith
+  pub refused_not : {p : Refusal} → check_of b ≡ Err p → ¬ WellFormed b
+  refused_not {p} e W = let q : Err p ≡ (Ok tt) = sym e ∙ passes b W in let z : ◌≡◌ {A = ℕ} 0 1 = cc in omega arith
 
-  abbrev pub Gives : Moved → Followed → Follower → Type 0
+  abbrev pub Gives : Moved → Result Response Refusal → Follower → Type 0
   Gives m x g = (m.answer ≡ x) × (m.follower ≡ g)
 
-  gives : {m : Moved} {x : Followed} {g : Follower} → m ≡ moved x g → Gives m x g
+  gives : {m : Moved} {x : Result Response Refusal} {g : Follower} → m ≡ moved x g → Gives m x g
   gives e = (ap (λ (m : Moved). m.answer) e, ap (λ (m : Moved). m.follower) e)
 
   module _ (f : Follower) (F : Formed f) where
@@ -379,36 +378,36 @@ module _ (b : List ℕ) where
         unready restart W n = absurd (n tt)
         unready (event a) W n = rw (called_unready b f (event a) (passes b W) (state_unready n)) (unfit W n)
 
-        at_check : (x : Stage) → check_of b ≡ x → Answered c (called_on b f c)
-        at_check (stage.Refused p) e = rw (called_refused b f c e) (answers.CallAnswer.other_chart ((chart_refused b p).0 e))
-        at_check stage.Passed e =
+        at_check : (x : Result Unit Refusal) → check_of b ≡ x → Answered c (called_on b f c)
+        at_check (Err p) e = rw (called_refused b f c e) (answers.CallAnswer.other_chart ((chart_refused b p).0 e))
+        at_check (Ok tt) e =
             let W = well_formed b e in
             by_cases (ready? c)
             (λ p. let R = call_ruled W f c F p in rw R.answered (rule_says W c F p R.formed R.marked R.responds))
             (unready c W)
 
-    answer_call : {c : Call} {x : Followed} {g : Follower} → CallAnswer b f c x g → called_on b f c ≡ moved x g
+    answer_call : {c : Call} {x : Result Response Refusal} {g : Follower} → CallAnswer b f c x g → called_on b f c ≡ moved x g
     answer_call {c} (answers.CallAnswer.other_chart r) = called_refused b f c ((chart_refused b _).1 r)
     answer_call {c} (unfit W n) = called_unready b f c (passes b W) (state_unready n)
     answer_call (restarts {g} {end} W S h) =
         agrees W F tt S.formed (inl S.unspoilt)
         (as_kept b f g refl (unspoilt_kept S.unspoilt) (restart_taken (shown W f) (shown_view W h) S.alone))
-        ∙ ap (λ (n : ℕ). moved (Taken end n) g) h.number
+        ∙ ap (λ (n : ℕ). moved (Ok (Taken end n)) g) h.number
     answer_call (goes {a} {g} {end} W p u o G m k h) =
         agrees W F p G (inl k)
         (as_kept b f g (unspoilt_kept u) (unspoilt_kept k) (event_taken (shown W f) (shown_view W h) a o m))
-        ∙ ap (λ (n : ℕ). moved (Taken end n) g) h.number
+        ∙ ap (λ (n : ℕ). moved (Ok (Taken end n)) g) h.number
     answer_call (spoils {a} {end} W p u n h) =
         agrees W F p (formed_left W keep true F) (inr refl)
         (as_kept b f (spoilt_state f) (unspoilt_kept u) refl
         (event_not_possible (shown W f) (shown_view W h) a p.some n (λ v. Iff.rfl)))
-        ∙ ap (λ (n : ℕ). moved (NotPossible end n) (spoilt_state f)) h.number
+        ∙ ap (λ (n : ℕ). moved (Ok (NotPossible end n)) (spoilt_state f)) h.number
     answer_call (stays {a} W p u) =
         agrees W F p F (inr u)
         (as_kept b f f (eq-eqb f.mark 1 u) (eq-eqb f.mark 1 u) (event_spoilt (shown W f) (shown W f) a p.some (λ v. Iff.rfl)))
 
     -- it answers x and leaves g exactly where the documents say so
-    pub call_says : (c : Call) (x : Followed) (g : Follower) → Gives (called_on b f c) x g ↔ CallAnswer b f c x g
+    pub call_says : (c : Call) (x : Result Response Refusal) (g : Follower) → Gives (called_on b f c) x g ↔ CallAnswer b f c x g
     call_says c x g = ((λ (p, q). rw (p, q) at (call_answer c)), λ a. gives (answer_call a))
 
   -- ONE CALL ON LENT BYTES: as many as a state has, or another number
@@ -431,22 +430,22 @@ module _ (b : List ℕ) where
         (λ l. rw (lent_held s c l) (holds_state l (call_answer (state_in s) (formed_in s B l) c)))
         (λ n. rw (lent_other s c n) (at_check n (check_of b) refl))
       where
-        at_check : length s ≢ state_size → (x : Stage) → check_of b ≡ x → LentAnswer b s c (by_other_length (check_of b)) s
-        at_check n (stage.Refused p) e = rw e (answers.LentAnswer.other_chart ((chart_refused b p).0 e))
-        at_check n stage.Passed e = rw e (other_length (well_formed b e) n)
+        at_check : length s ≢ state_size → (x : Result Unit Refusal) → check_of b ≡ x → LentAnswer b s c (by_other_length (check_of b)) s
+        at_check n (Err p) e = rw e (answers.LentAnswer.other_chart ((chart_refused b p).0 e))
+        at_check n (Ok tt) e = rw e (other_length (well_formed b e) n)
 
-    answer_lent : {x : Followed} {t : List ℕ} → LentAnswer b s c x t → lent_on b s c ≡ (x, t)
+    answer_lent : {x : Result Response Refusal} {t : List ℕ} → LentAnswer b s c x t → lent_on b s c ≡ (x, t)
     answer_lent (answers.LentAnswer.other_chart {p} r) =
         let e = (chart_refused b p).1 r in
         by_cases (ℕ_discrete (length s) state_size)
-        (λ l. lent_held s c l ∙ ap in_bytes (called_refused b (state_in s) c e) ∙ ap (λ (t : List ℕ). (Refused p, t)) (bytes_back s l))
+        (λ l. lent_held s c l ∙ ap in_bytes (called_refused b (state_in s) c e) ∙ ap (λ (t : List ℕ). (Err p, t)) (bytes_back s l))
         (λ n. lent_other s c n ∙ rw e refl)
     answer_lent (other_length W n) = lent_other s c n ∙ rw (passes b W) refl
     answer_lent (holds_state l a) = lent_held s c l ∙ ap in_bytes (answer_call (state_in s) (formed_in s B l) a)
 
     -- it answers x and leaves t exactly where the documents say so
-    pub lent_says : (x : Followed) (t : List ℕ) → (((lent_on b s c).0 ≡ x) × ((lent_on b s c).1 ≡ t)) ↔ LentAnswer b s c x t
+    pub lent_says : (x : Result Response Refusal) (t : List ℕ) → (((lent_on b s c).0 ≡ x) × ((lent_on b s c).1 ≡ t)) ↔ LentAnswer b s c x t
     lent_says x t = (
       (λ (p, q). rw (p, q) at lent_answer),
-      (λ a. let e = answer_lent a in (ap (λ (m : Followed × List ℕ). m.0) e, ap (λ (m : Followed × List ℕ). m.1) e)),
+      (λ a. let e = answer_lent a in (ap (λ (m : Result Response Refusal × List ℕ). m.0) e, ap (λ (m : Result Response Refusal × List ℕ). m.1) e)),
     )

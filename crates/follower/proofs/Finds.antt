@@ -14,17 +14,16 @@ use lib.ListN.{length, get_or}
 use lib.Seq.{get_or-take}
 use Rattle.theory.specs.Tests.{Decides, some_in}
 use Rattle.theory.specs.Followers.{Shows, go, Offered}
-use Rattle.theory.specs.Events.{restart, event, taken, not_possible, Word, answer, told}
+use Rattle.theory.specs.Events.{restart, event, taken, not_possible, Word, Answer, answer, told}
 use Rattle.theory.specs.Runs.{Machine, system, MembersOf, nonempty, view_of, left_by}
 use Rattle.theory.proofs.Tests.{decided, is_false, decides_same, decides_eqb, decides_ltb, decides_listed}
 use Rattle.theory.proofs.Search.{look_below}
 use Rattle.theory.proofs.Followers.{one_view}
 use Rattle.theory.proofs.Runs.{view_shows, effect_members, chart_machine_lem}
-use Rattle.report.specs.declared.Followed.{Followed}
-use Rattle.report.specs.declared.Followed.TheVariants.{Spoilt}
-use Rattle.report.specs.declared.Place.TheVariants as place
-use Rattle.report.specs.declared.Stage.{Stage}
-use Rattle.report.specs.declared.Stage.TheVariants as stage
+use Rattle.std.specs.Prelude.{Result, Ok, Err, Some, None}
+use Rattle.report.specs.declared.Refusal.{Refusal}
+use Rattle.report.specs.declared.Refusal.TheVariants as refusal
+use Rattle.report.specs.declared.Response.TheVariants.{NotPossible, Spoilt}
 use Rattle.bits.specs.Bits.{Bytes, has_bit}
 use Rattle.bits.specs.declared.sets.Set.{Set}
 use Rattle.bits.specs.Words.{On}
@@ -38,9 +37,10 @@ use Rattle.chart.specs.Images.{Image, Offers, Marks, marked_of}
 use Rattle.chart.proofs.Relations.{acts_member}
 use Rattle.chart.proofs.Rows.{to_low}
 use Rattle.follower.specs.declared.Follower.{Follower}
-use Rattle.follower.specs.declared.Stepped.{Stepped}
+use Rattle.follower.specs.declared.Shown.{Shown}
+use Rattle.follower.specs.declared.Moved.{Moved}
 use Rattle.follower.specs.States.{state_in, InState, Unspoilt, IsSpoilt, members_of, set_of, state_with, spoilt_state, no_state}
-use Rattle.follower.specs.Parts.{Same, Fits, StepBy, word_of, Tells}
+use Rattle.follower.specs.Parts.{Same, Fits, StepBy, goes, stays, SetShows, TakenTo}
 use Rattle.follower.specs.Calls.{state_stage, followed_as, answer_of, state_after, moved, ruled_of}
 use Rattle.follower.specs.FollowerAnswers.{StateFits}
 use Rattle.follower.proofs.Calls.{mark_low, unspoilt_kept, tests_state, state_ready, state_unready}
@@ -118,13 +118,17 @@ module _ (b : List ℕ) (W : WellFormed b) (B : Bytes b) where
     pub told_same : (w : Word) → told w (view_of M xs) ≡ answer w end (length (marked_of marks))
     told_same w = ap (told w) (one_view (system M) (view_shows M xs) shown)
 
-  -- THE ANSWER of the code, where the set has the members of a list
-  pub tells_same : {step : Stepped} {xs : List ℕ} {x : Followed} → Same step.set xs → Tells b step x
-      → (w : Word) → ((end : Bool) (n : ℕ) → word_of step.taken end n ≡ followed_as (answer w end n))
-      → x ≡ followed_as (told w (view_of M xs))
-  tells_same {step} {xs} S T w f =
-      T.word ∙ f T.end T.n ∙ ap (λ (n : ℕ). followed_as (answer w T.end n)) T.counts.many
-      ∙ sym (ap followed_as (told_same S T.counts.exactly T.holds_end w))
+  -- what the code shows of a set that has the members of a list
+  shows_same : {set : Set} {xs : List ℕ} {s : Shown} → Same set xs → SetShows b set s
+      → (w : Word) → answer w s.end s.offered ≡ told w (view_of M xs)
+  shows_same {s = s} S T w = ap (answer w s.end) T.counts.many ∙ sym (told_same S T.counts.exactly T.holds_end w)
+
+  -- and what it answers and leaves where a call is taken to it
+  taken_same : {set : Set} {xs : List ℕ} {m : Moved} → Same set xs → TakenTo b set m
+      → m ≡ moved (followed_as (told taken (view_of M xs))) (state_with (set_of xs) false)
+  taken_same {m = m} S T =
+      (λ i. record { answer = T.answer i; follower = record { set = m.follower.set; mark = T.unspoilt i } })
+      ∙ ap₂ moved (ap followed_as (shows_same S T.shown taken)) (ap (λ (s : List ℕ). state_with s false) (bytes_same _ T.bytes S))
 
   -- AN EVENT on a state whose set has a member
   module _ (f : Follower) (a : ℕ) {set : Set} (S : Same set (members_of f)) (fits : Fits (vertices_of b) set f.mark) where
@@ -147,57 +151,45 @@ module _ (b : List ℕ) (W : WellFormed b) (B : Bytes b) where
         from (w, (u, h, k)) = (w, (u, (S u).0 h, (move_acts u a w).1 k))
 
     -- the state is spoilt: it stays
-    pub event_stays : IsSpoilt f → moved Spoilt f ≡ ruled_of b f (event a)
+    pub event_stays : IsSpoilt f → moved (Ok Spoilt) f ≡ ruled_of b f (event a)
     unfolding answer_of state_after
-    event_stays u = rw (has_some, eq-eqb f.mark 1 u) (ap (moved Spoilt) (λ i. record { set = f.set; mark = u i }))
+    event_stays u = rw (has_some, eq-eqb f.mark 1 u) (ap (moved (Ok Spoilt)) (λ i. record { set = f.set; mark = u i }))
 
-    module _ (n : ¬ IsSpoilt f) {step : Stepped} {x : Followed} (T : StepBy b set a step) (X : Tells b step x) where
+    module _ (n : ¬ IsSpoilt f) where
       unspoilt : Unspoilt f
       unspoilt = omega (arith, n, fits.1)
 
       -- the action has no target: the state is spoilt
-      pub event_spoils : step.taken ≡ false → moved x (spoilt_state f) ≡ ruled_of b f (event a)
+      pub event_spoils : {s : Shown} → StepBy b set a None → SetShows b set s
+          → moved (Ok (NotPossible s.end s.offered)) (spoilt_state f) ≡ ruled_of b f (event a)
       unfolding answer_of state_after
-      event_spoils e =
-          let (z, n) = T.stays e in
-          let q = is_false offers (λ (w, i). n w i) in
-          let K : Same step.set (members_of f) = rw z S in
+      event_spoils (stays none) X =
+          let q = is_false offers (λ (w, i). none w i) in
           rw (has_some, unspoilt_kept unspoilt, q)
-          (ap (λ (y : Followed). moved y (spoilt_state f)) (tells_same K X not_possible (λ end n. rw e refl)))
+          (ap (λ (y : Answer). moved (followed_as y) (spoilt_state f)) (shows_same S X not_possible))
 
       -- it has some: the set becomes all of them
-      pub event_goes : step.taken ≡ true → {r : List ℕ} → BytesOf step.set r → moved x (state_with r false) ≡ ruled_of b f (event a)
+      pub event_goes : {targets : Set} {m : Moved} → StepBy b set a (Some targets) → TakenTo b targets m → m ≡ ruled_of b f (event a)
       unfolding answer_of state_after
-      event_goes e R =
-          let (some, I) = T.goes e in
-          let q = offers.1 (at_some some I) in
-          let K = image_same S I in
-          rw (has_some, unspoilt_kept unspoilt, q)
-          (ap₂ moved (tells_same K X taken (λ end n. rw e refl)) (ap (λ (s : List ℕ). state_with s false) (bytes_same _ R K)))
+      event_goes {targets} (goes some I) X =
+          let q = offers.1 at_some in
+          rw (has_some, unspoilt_kept unspoilt, q) (taken_same (image_same S I) X)
         where
-          at_some : ¬ Empty step.set → Members (Image b set a) step.set → (w : ℕ) × Image b set a w
-          at_some n I = ⊎_elim (λ (w, l, h). (w, (I.exactly w l).0 h)) (λ g. absurd (n (λ w h. g w h.below h)))
-              (look_below (has? step.set) 128)
+          at_some : (w : ℕ) × Image b set a w
+          at_some = ⊎_elim (λ (w, l, h). (w, (I.exactly w l).0 h)) (λ g. absurd (some (λ w h. g w h.below h)))
+              (look_below (has? targets) 128)
 
   -- THE STEP of the code
-  pub step_stays : {set targets : Set} {a : ℕ} → Members (Image b set a) targets → Empty targets
-      → StepBy b set a (record { taken = false; set = set })
-  step_stays I e = record {
-    goes = λ t. absurd (true≢false (sym t));
-    stays = λ t. (refl, λ w i. let k = i.2 in e w ((I.exactly w (omega (arith, k.enters, to_low W k.at k.within))).1 i));
-  }
-
-  pub step_goes : {set targets : Set} {a : ℕ} → Members (Image b set a) targets → ¬ Empty targets
-      → StepBy b set a (record { taken = true; set = targets })
-  step_goes I n = record { goes = λ t. (n, I); stays = λ t. absurd (true≢false t) }
+  pub step_stays : {set targets : Set} {a : ℕ} → Members (Image b set a) targets → Empty targets → StepBy b set a None
+  step_stays I e = stays (λ w i. let k = i.2 in e w ((I.exactly w (omega (arith, k.enters, to_low W k.at k.within))).1 i))
 
   -- A RESTART: the start alone
-  pub restart_goes : {step : Stepped} {x : Followed} {r : List ℕ} → ((y : ℕ) → Has step.set y ↔ (y ≡ start_of b)) → step.taken ≡ true
-      → Tells b step x → BytesOf step.set r → moved x (state_with r false) ≡ ruled_of b no_state restart
+  pub restart_goes : {set : Set} {m : Moved} → ((y : ℕ) → Has set y ↔ (y ≡ start_of b)) → TakenTo b set m
+      → m ≡ ruled_of b no_state restart
   unfolding answer_of state_after
-  restart_goes {step} H e X R =
-      let K : Same step.set (start_of b ∷ []) = λ v. ((λ h. Memᴰ.head ((H v).0 h)), (λ m. (H v).1 (Memᴰ.eq_of_singleton m))) in
-      ap₂ moved (tells_same K X taken (λ end n. rw e refl)) (ap (λ (s : List ℕ). state_with s false) (bytes_same _ R K))
+  restart_goes {set} H X =
+      let K : Same set (start_of b ∷ []) = λ v. ((λ h. Memᴰ.head ((H v).0 h)), (λ m. (H v).1 (Memᴰ.eq_of_singleton m))) in
+      taken_same K X
 
 -- 53
 module _ {set : Set} {mark : ℕ} where
@@ -238,20 +230,20 @@ fits_passes b f {set} S = (to, from)
     }
 
 -- the stage that the code answers
-abbrev pub Readied : List ℕ → Set → ℕ → Stage → Type 0
+abbrev pub Readied : List ℕ → Set → ℕ → Result Unit Refusal → Type 0
 Readied b set mark r =
-    (Fits (vertices_of b) set mark → r ≡ stage.Passed) × (¬ Fits (vertices_of b) set mark → r ≡ stage.Refused place.FollowerSet)
+    (Fits (vertices_of b) set mark → r ≡ Ok tt) × (¬ Fits (vertices_of b) set mark → r ≡ Err refusal.FollowerSet)
 
-module _ (b : List ℕ) (f : Follower) {set : Set} {r : Stage} (S : Same set (members_of f)) (R : Readied b set f.mark r) where
+module _ (b : List ℕ) (f : Follower) {set : Set} {r : Result Unit Refusal} (S : Same set (members_of f)) (R : Readied b set f.mark r) where
   pub ready_stage : r ≡ state_stage b f
   ready_stage = by_cases (decided (tests_state b f))
       (λ p. R.0 ((fits_passes b f S).0 p) ∙ sym (state_ready p))
       (λ n. R.1 (λ p. n ((fits_passes b f S).1 p)) ∙ sym (state_unready n))
 
-  pub ready_fits : r ≡ stage.Passed → Fits (vertices_of b) set f.mark
+  pub ready_fits : r ≡ Ok tt → Fits (vertices_of b) set f.mark
   ready_fits e = by_cases (decided (tests_state b f))
       (λ p. (fits_passes b f S).0 p)
-      (λ n. let q : stage.Refused place.FollowerSet ≡ stage.Passed = sym (R.1 (λ p. n ((fits_passes b f S).1 p))) ∙ e in
+      (λ n. let q : Err refusal.FollowerSet ≡ (Ok tt) = sym (R.1 (λ p. n ((fits_passes b f S).1 p))) ∙ e in
       let z : ◌≡◌ {A = ℕ} 0 1 = cc in absurd (omega arith))
 
 -- the set of the start alone

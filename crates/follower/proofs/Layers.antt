@@ -20,7 +20,8 @@ use Rattle.chart.specs.Bodies.{vertices_of, WellFormed}
 use Rattle.chart.specs.Systems.{system_of}
 use Rattle.chart.specs.Images.{LeadsTo}
 use Rattle.chart.proofs.Relations.{acts_member}
-use Rattle.follower.specs.Layers.{SomeEnds, ReadRows, Layered}
+use Rattle.std.specs.Prelude.{Some, None}
+use Rattle.follower.specs.Layers.{SomeEnds, ReadRows, Layered, LayersFrom, found, not_found}
 
 -- THE TARGETS OF A LAYER: of its vertices that are left no longer
 pub record Reading (b : List ℕ) (layer left : Set) (before : List ℕ) (all : Set) (rows : List ℕ) : Type 0 where
@@ -145,10 +146,9 @@ module _ (b : List ℕ) where
     layering_ends g = record {
       layers_long = stored_long;
       rows_long = L.rows_long;
-      sooner = L.sooner;
-      nearest = λ l. record { holds = at_end_lem ((L.at.exactly 0 (omega arith)).0 g).holds; lowest = L.sooner };
-      layer = λ l. stored_rows;
-      row = λ l j u m q. L.row j u m (rw (stored_other j (λ e. omega (arith, e, m))) at q);
+      nearest = record { holds = at_end_lem ((L.at.exactly 0 (omega arith)).0 g).holds; lowest = L.sooner };
+      layer = stored_rows;
+      row = λ j u m q. L.row j u m (rw (stored_other j (λ e. omega (arith, e, m))) at q);
     }
 
     -- THE NEXT LAYER: the targets of this one that are not in it or before it
@@ -215,14 +215,11 @@ module _ (b : List ℕ) where
                   })
                   (λ m. absurd (far g w.steps (omega (arith, m)) w.reached))
 
-  -- NO LAYER below V has it
-  pub layering_none : {set layer seen : Set} {k : ℕ} {layers rows : List ℕ} → Layering b set k layers rows layer seen
-      → vertices_of b ≤ k → Layered b set k layers rows
-  layering_none L h = record {
-    layers_long = L.layers_long;
-    rows_long = L.rows_long;
-    sooner = L.sooner;
-    nearest = λ l. absurd (omega (arith, l, h));
-    layer = λ l. absurd (omega (arith, l, h));
-    row = λ l. absurd (omega (arith, l, h));
-  }
+-- what is found of them, and that nothing is
+pub layers_found : {b : List ℕ} {set : Set} {layers rows : List ℕ} {d : ℕ} → LayersFrom b set layers rows (Some d)
+    → (d < vertices_of b) × Layered b set d layers rows
+layers_found (found l L) = (l, L)
+
+pub no_layer : {b : List ℕ} {set : Set} {layers rows : List ℕ} → LayersFrom b set layers rows None
+    → (k : ℕ) → k < vertices_of b → ¬ SomeEnds b set k
+no_layer (not_found n) = n

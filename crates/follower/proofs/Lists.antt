@@ -12,8 +12,10 @@ use Rattle.theory.specs.Runs.{run, run_leaves}
 use Rattle.theory.proofs.Followers.{from_fresh}
 use Rattle.theory.proofs.Events.{never_refused}
 use Rattle.theory.proofs.Runs.{run_follows}
-use Rattle.report.specs.declared.Followed.{Followed}
-use Rattle.report.specs.declared.Followed.TheVariants.{Spoilt}
+use Rattle.std.specs.Prelude.{Result, Ok}
+use Rattle.report.specs.declared.Refusal.{Refusal}
+use Rattle.report.specs.declared.Response.{Response}
+use Rattle.report.specs.declared.Response.TheVariants.{Spoilt}
 use Rattle.chart.specs.Bodies.{WellFormed}
 use Rattle.chart.specs.Systems.{system_of}
 use Rattle.chart.proofs.Checks.{passes}
@@ -30,7 +32,7 @@ ready restart p = tt
 ready (event a) p = p
 
 -- the answers ys to a list of calls on the state f are the rule's, and so is the state g after them
-pub record RunRuled (b : List ℕ) (f : Follower) (cs : List Call) (ys : List Followed) (g : Follower) : Type 1 where
+pub record RunRuled (b : List ℕ) (f : Follower) (cs : List Call) (ys : List (Result Response Refusal)) (g : Follower) : Type 1 where
   pub answers : List Answer
   pub written : ys ≡ map followed_as answers
   pub follows : RuleFollows b f cs answers g
@@ -39,7 +41,7 @@ pub record RunRuled (b : List ℕ) (f : Follower) (cs : List Call) (ys : List Fo
 
 module _ {b : List ℕ} (W : WellFormed b) where
   -- whatever answers and leaves what one call on the state does, where 53 passes; Own is what it asks of its states
-  module _ {S : Type 0} (step : S → Call → Followed × S) (state : S → Follower) (Own : S → Type 0)
+  module _ {S : Type 0} (step : S → Call → Result Response Refusal × S) (state : S → Follower) (Own : S → Type 0)
       (own : (s : S) → Own s → Formed (state s))
       (same : (s : S) (c : Call) → Own s → Formed (called_on b (state s) c).follower
       → Gives b (called_on b (state s) c) (step s c).0 (state (step s c).1))
@@ -123,11 +125,11 @@ module _ {b : List ℕ} (W : WellFormed b) where
       rw (lent_held b s restart l) (holding F.formed, rw (state_back (called_on b (state_in s) restart).follower F.formed.sixteen) F)
 
 -- no answer is a refusal
-abbrev pub NoRefusal : Followed → Type 0
-NoRefusal y = ((w : Word) × (end : Bool) × (offered : ℕ) × (y ≡ followed_as (answer w end offered))) ⊎ (y ≡ Spoilt)
+abbrev pub NoRefusal : Result Response Refusal → Type 0
+NoRefusal y = ((w : Word) × (end : Bool) × (offered : ℕ) × (y ≡ followed_as (answer w end offered))) ⊎ (y ≡ Ok Spoilt)
 
 module _ {b : List ℕ} {cs : List Call} where
-  pub none_refused : {ys : List Followed} {left : Follower} → ByRule b cs ys left → (y : Followed) → Memᴰ y ys → NoRefusal y
+  pub none_refused : {ys : List (Result Response Refusal)} {left : Follower} → ByRule b cs ys left → (y : Result Response Refusal) → Memᴰ y ys → NoRefusal y
   none_refused R y m =
       let (x, i, q) = Memᴰ.of_map followed_as R.answers (rw R.written at m) in
       told x (never_refused R.rule x i) (sym q)

@@ -134,7 +134,7 @@ module _ {b : List ℕ} (W : WellFormed b) {set : Set} {d : ℕ} {layers rows af
 
   -- reached in k steps and j from the end, where these are d together
   first : {j k u : ℕ} → k + j ≡ d → ReachedIn M (Has set) k u → EndsIn M j u → FirstIn M (Has set) k u
-  first {j} e r f = record { holds = r; lowest = λ i l q. L.sooner (i + j) (omega (arith, l, e)) (reached_ends M (i + j) q f refl) }
+  first {j} e r f = record { holds = r; lowest = λ i l q. L.nearest.lowest (i + j) (omega (arith, l, e)) (reached_ends M (i + j) q f refl) }
 
   -- exactly these are left
   abbrev Left : ℕ → ℕ → Type 0
@@ -143,7 +143,7 @@ module _ {b : List ℕ} (W : WellFormed b) {set : Set} {d : ℕ} {layers rows af
   left_last : {k : ℕ} → k ≡ d → Left 0 k
   left_last {k} z u l = (
     (λ g. let q = (N.last u).0 (subst (λ (i : ℕ). HasRow after i u) z g) in
-        let (x, m, f) = (L.nearest v).holds in
+        let (x, m, f) = L.nearest.holds in
         let (y, p, r) = ends_reached M d (member m) f (omega arith) in
         let t = subst (λ (i : ℕ). ReachedIn M (Has set) i u) (sym z) (subst (ReachedIn M (Has set) d) (p ∙ sym q) r) in
         let f = (ends_in_none M).1 q in
@@ -158,12 +158,12 @@ module _ {b : List ℕ} (W : WellFormed b) {set : Set} {d : ℕ} {layers rows af
       h = omega (arith, e)
 
       at : Has (row_of layers k) u ↔ FirstIn M (Has set) k u
-      at = (L.layer v k (omega (arith, h))).exactly u l
+      at = (L.layer k (omega (arith, h))).exactly u l
 
       to : HasRow after k u → FirstIn M (Has set) k u × EndsIn M (suc j) u
       to g =
           let (m, (w, p, q)) = ((N.each k h).exactly u l).0 g in
-          let (a, s) = ((L.row v k u h m).exactly w p.below).0 p in
+          let (a, s) = ((L.row k u h m).exactly w p.below).0 p in
           (at.0 m, ends_in_more M ((acts_member b u a w).0 s) ((I w q.below).0 q).1)
 
       from : FirstIn M (Has set) k u × EndsIn M (suc j) u → HasRow after k u
@@ -174,7 +174,7 @@ module _ {b : List ℕ} (W : WellFormed b) {set : Set} {d : ℕ} {layers rows af
           let i : w < 128 = omega (arith, s.enters, to_low W s.at s.within) in
           ((N.each k h).exactly u l).1 (
             m,
-            (w, ((L.row v k u h m).exactly w i).1 (a, s), (I w i).1 (first e (onward F.holds t) g, g)),
+            (w, ((L.row k u h m).exactly w i).1 (a, s), (I w i).1 (first e (onward F.holds t) g, g)),
           )
 
   left : (j k : ℕ) → k + j ≡ d → Left j k
@@ -197,7 +197,7 @@ module _ {b : List ℕ} (W : WellFormed b) {set : Set} {d : ℕ} {layers rows af
   pub narrowed_leads : Leads b d after
   narrowed_leads = record {
     long = N.long;
-    some = let (x, m, e) = (L.nearest v).holds in (x, (narrowed_first x).1 (m, e));
+    some = let (x, m, e) = L.nearest.holds in (x, (narrowed_first x).1 (m, e));
     ends = λ k x l g. (at_place k x l g).1;
     onward = λ k u a w l g s e.
         (left (d - suc k) (suc k) (omega (arith, l)) w (omega (arith, s.enters, to_low W s.at s.within))).1

@@ -23,12 +23,10 @@ use Rattle.theory.proofs.Runs.{chart_machine_lem}
 use Rattle.theory.proofs.Ways.{one_shortest, shortest_same, spoilt_stays, ends_unspoilt, ends_taken, ends_carried, ends_short, shortest_few, one_lowest, lowest_carried}
 use Rattle.theory.specs.WayTests.{steps_to_end}
 use Rattle.theory.proofs.WayTests.{SomeEndsIn, steps_least, steps_none, list_long, lowest_list_lem, shortest_list_lem}
-use Rattle.report.specs.declared.Place.{Place}
-use Rattle.report.specs.declared.Place.TheVariants as place
-use Rattle.report.specs.declared.Stage.{Stage}
-use Rattle.report.specs.declared.Stage.TheVariants as stage
-use Rattle.report.specs.declared.Way.{Way}
-use Rattle.report.specs.declared.Way.TheVariants.{Length, Refused, NoWay}
+use Rattle.std.specs.Prelude.{Result, Ok, Err}
+use Rattle.report.specs.declared.Refusal.{Refusal}
+use Rattle.report.specs.declared.Refusal.TheVariants as refusal
+use Rattle.report.specs.declared.Refusal.TheVariants.{NoWay}
 use Rattle.bits.specs.Bits.{Bytes, bytes_with}
 use Rattle.bits.specs.declared.sets.Set.{Set}
 use Rattle.bits.specs.Sets.{Has}
@@ -52,10 +50,10 @@ use Rattle.follower.proofs.Lists.{Holding, lent_run}
 use Rattle.follower.proofs.Finds.{move_acts}
 
 -- the answer x and the lent bytes t are what is handed back and left
-abbrev pub WayGives : (b s out : List ℕ) → Way → List ℕ → Type 0
+abbrev pub WayGives : (b s out : List ℕ) → Result ℕ Refusal → List ℕ → Type 0
 WayGives b s out x t = (way_of b s (length out) ≡ x) × (way_left b s out ≡ t)
 
-given : {b s out : List ℕ} {x : Way} {t : List ℕ} → WayGives b s out x t → WayAnswer b s out x t
+given : {b s out : List ℕ} {x : Result ℕ Refusal} {t : List ℕ} → WayGives b s out x t → WayAnswer b s out x t
     → WayAnswer b s out (way_of b s (length out)) (way_left b s out)
 given (p, q) h = rw (p, q) h
 
@@ -64,10 +62,10 @@ pub both_sym : {A B : Type 0} {x y : A} {u v : B} → (x ≡ y) × (u ≡ v) →
 both_sym (p, q) = (sym p, sym q)
 
 -- THE STAGE of 53: bytes that hold a state that is ready pass, and others don't
-bytes_ready : {b s : List ℕ} → StatePasses b s → bytes_stage b s ≡ stage.Passed
+bytes_ready : {b s : List ℕ} → StatePasses b s → bytes_stage b s ≡ Ok tt
 bytes_ready {b} {s} P = rw (eq-eqb (length s) state_size P.long) (state_ready P.fits)
 
-bytes_unready : {b s : List ℕ} → WellFormed b → ¬ StatePasses b s → bytes_stage b s ≡ stage.Refused place.FollowerSet
+bytes_unready : {b s : List ℕ} → WellFormed b → ¬ StatePasses b s → bytes_stage b s ≡ Err refusal.FollowerSet
 bytes_unready {b} {s} W n =
     by_cases (ℕ_discrete (length s) state_size)
     (λ l. rw (eq-eqb (length s) state_size l) (state_unready (λ p. n (record { chart = W; long = l; fits = p }))))
@@ -186,38 +184,38 @@ module _ {b s : List ℕ} (B : Bytes b) (D : Bytes s) (P : StatePasses b s) wher
       (w.end, length w.offered, sym q ∙ ap followed_as e)
 
   -- 20, 21 AND 53 PASSED: 55, 54, and the list
-  passed_53 : bytes_stage b s ≡ stage.Passed
+  passed_53 : bytes_stage b s ≡ Ok tt
   passed_53 = bytes_ready P
 
   module _ (out : List ℕ) where
-    pub way_none : vertices_of b ≤ events_to_end b s → WayGives b s out NoWay out
+    pub way_none : vertices_of b ≤ events_to_end b s → WayGives b s out (Err NoWay) out
     unfolding way_of way_left
     way_none h = rw (passes b P.chart, passed_53, le-ltb (events_to_end b s) (vertices_of b) h) (refl, refl)
 
     pub way_short : events_to_end b s < vertices_of b → length out < events_to_end b s
-        → WayGives b s out (Refused (place.OutputLength (events_to_end b s))) out
+        → WayGives b s out (Err (refusal.OutputLength (events_to_end b s))) out
     unfolding way_of way_left
     way_short h l =
         rw (passes b P.chart, passed_53, lt-ltb (events_to_end b s) (vertices_of b) h, lt-ltb (length out) (events_to_end b s) l) (refl, refl)
 
     pub way_written : events_to_end b s < vertices_of b → events_to_end b s ≤ length out
-        → WayGives b s out (Length (events_to_end b s)) (bytes_with (shortest_list b s) out)
+        → WayGives b s out (Ok (events_to_end b s)) (bytes_with (shortest_list b s) out)
     unfolding way_of way_left
     way_written h l =
         rw (passes b P.chart, passed_53, lt-ltb (events_to_end b s) (vertices_of b) h, le-ltb (length out) (events_to_end b s) l) (refl, refl)
 
     -- with the list at hand
     pub list_short : {xs : List ℕ} → ShortestWay b s xs → length out < length xs
-        → WayGives b s out (Refused (place.OutputLength (length xs))) out
+        → WayGives b s out (Err (refusal.OutputLength (length xs))) out
     list_short {xs} S l =
         let e = length_found S in rw e (way_short (found_low S) (omega (arith, e, l)))
 
     pub list_written : {xs : List ℕ} → ShortestWay b s xs → length xs ≤ length out
-        → WayGives b s out (Length (length xs)) (bytes_with xs out)
+        → WayGives b s out (Ok (length xs)) (bytes_with xs out)
     list_written {xs} S l =
         let e = length_found S in
         let (p, q) = way_written (found_low S) (omega (arith, e, l)) in
-        (p ∙ ap Length (sym e), q ∙ ap (λ (ys : List ℕ). bytes_with ys out) (sym (found_one S)))
+        (p ∙ ap Ok (sym e), q ∙ ap (λ (ys : List ℕ). bytes_with ys out) (sym (found_one S)))
 
     pub passed_answer : WayAnswer b s out (way_of b s (length out)) (way_left b s out)
     passed_answer =
@@ -230,17 +228,17 @@ module _ {b s : List ℕ} (B : Bytes b) (D : Bytes s) (P : StatePasses b s) wher
 -- THE STAGES of the call
 module _ (b s out : List ℕ) where
   -- 20 and 21
-  pub way_refused : {p : Place} → check_of b ≡ stage.Refused p → WayGives b s out (Refused p) out
+  pub way_refused : {p : Refusal} → check_of b ≡ Err p → WayGives b s out (Err p) out
   unfolding way_of way_left
   way_refused e = rw e (refl, refl)
 
   -- 53
-  pub way_unready : {p : Place} → check_of b ≡ stage.Passed → length s ≡ state_size → state_stage b (state_in s) ≡ stage.Refused p
-      → WayGives b s out (Refused p) out
+  pub way_unready : {p : Refusal} → check_of b ≡ Ok tt → length s ≡ state_size → state_stage b (state_in s) ≡ Err p
+      → WayGives b s out (Err p) out
   unfolding way_of way_left
   way_unready e l r = rw (e, eq-eqb (length s) state_size l, r) (refl, refl)
 
-  pub way_no_state : WellFormed b → ¬ StatePasses b s → WayGives b s out (Refused place.FollowerSet) out
+  pub way_no_state : WellFormed b → ¬ StatePasses b s → WayGives b s out (Err refusal.FollowerSet) out
   unfolding way_of way_left
   way_no_state W n = rw (passes b W, bytes_unready W n) (refl, refl)
 
@@ -248,15 +246,15 @@ module _ (b s out : List ℕ) (B : Bytes b) (D : Bytes s) where
   way_answer : WayAnswer b s out (way_of b s (length out)) (way_left b s out)
   way_answer = go (check_of b) refl
     where
-      go : (x : Stage) → check_of b ≡ x → WayAnswer b s out (way_of b s (length out)) (way_left b s out)
-      go (stage.Refused p) e = given (way_refused b s out e) (other_chart ((chart_refused b p).0 e))
-      go stage.Passed e =
+      go : (x : Result Unit Refusal) → check_of b ≡ x → WayAnswer b s out (way_of b s (length out)) (way_left b s out)
+      go (Err p) e = given (way_refused b s out e) (other_chart ((chart_refused b p).0 e))
+      go (Ok tt) e =
           let W = well_formed b e in
           by_cases (passes? s W)
           (λ P. passed_answer B D P out)
           (λ n. given (way_no_state b s out W n) (no_state_lem W n))
 
-  answer_way : {x : Way} {t : List ℕ} → WayAnswer b s out x t → WayGives b s out x t
+  answer_way : {x : Result ℕ Refusal} {t : List ℕ} → WayAnswer b s out x t → WayGives b s out x t
   answer_way (other_chart r) = way_refused b s out ((chart_refused b _).1 r)
   answer_way (no_state_lem W n) = way_no_state b s out W n
   answer_way (no_way P n) = way_none B D P out (unreached B D P n)
@@ -264,11 +262,11 @@ module _ (b s out : List ℕ) (B : Bytes b) (D : Bytes s) where
   answer_way (written P S l) = list_written B D P out S l
 
   -- THE CALL answers x and leaves t exactly where document 02 says so
-  pub way_says : (x : Way) (t : List ℕ) → WayGives b s out x t ↔ WayAnswer b s out x t
+  pub way_says : (x : Result ℕ Refusal) (t : List ℕ) → WayGives b s out x t ↔ WayAnswer b s out x t
   way_says x t = ((λ (p, q). rw (p, q) at way_answer), answer_way)
 
 -- THE CODE'S ANSWER, of a set that has the state's vertices
-pub spoilt_way : {b s out : List ℕ} → Bytes b → Bytes s → StatePasses b s → IsSpoilt (state_in s) → WayGives b s out NoWay out
+pub spoilt_way : {b s out : List ℕ} → Bytes b → Bytes s → StatePasses b s → IsSpoilt (state_in s) → WayGives b s out (Err NoWay) out
 spoilt_way {out = out} B D P u = way_none B D P out (omega (arith, spoilt_events B D P u))
 
 -- where the state is not spoilt
@@ -303,19 +301,19 @@ module _ {b s : List ℕ} (B : Bytes b) (D : Bytes s) (P : StatePasses b s) (u :
       one_lowest (system_of b) K
       (rw e (lowest_carried listed (lowest_list_lem (machine_of b) (action_byte_lem B D P) d (members_of (state_in s)) ((some_listed d).1 L.holds))))
 
-  pub found_way : {out t : List ℕ} {x : Way} → WayFrom b set out x t → WayGives b s out x t
+  pub found_way : {out t : List ℕ} {x : Result ℕ Refusal} → WayFrom b set out x t → WayGives b s out x t
   found_way {out} (layers.no_way f) = way_none B D P out (by_cases (dec_lt steps (vertices_of b))
       (λ h. absurd (f _ h ((some_listed _).0 (steps_least (machine_of b) (vertices_of b) (members_of (state_in s)) h).holds)))
       (λ h. omega (arith, h, unspoilt_events B D P u)))
   found_way {out} (layers.too_short {d} l L n) =
       let e = same_number l L in
-      subst (λ (k : ℕ). WayGives b s out (Refused (place.OutputLength k)) out) e
+      subst (λ (k : ℕ). WayGives b s out (Err (refusal.OutputLength k)) out) e
       (way_short B D P out (omega (arith, e)) (omega (arith, e, n)))
   found_way {out} (layers.written {d} {t} l L n R) =
       let e = same_number l L in
       let q = same_list e L R.lowest in
       let (y, z) = way_written B D P out (omega (arith, e)) (omega (arith, e, n)) in (
-        y ∙ ap Length e,
+        y ∙ ap Ok e,
         z ∙ ap (λ (xs : List ℕ). bytes_with xs out) (sym q)
             ∙ ap (λ (k : ℕ). R.list ++ drop k out) R.lowest.long ∙ sym R.left,
       )

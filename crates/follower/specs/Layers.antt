@@ -1,11 +1,11 @@
 -- What the parts of the shortest way's code answer: the vertices by how many steps lead there from a set, those of them that
 -- are on a shortest path to the end, and the list.
-use Rattle.std.specs.Prelude.{ℕ, suc, ◌-◌, ◌≤◌, ◌<◌, ◌≡◌, ◌↔◌, List, ◌++◌, length, drop}
+use Rattle.std.specs.Prelude.{ℕ, suc, ◌-◌, ◌≤◌, ◌<◌, ◌≡◌, ◌↔◌, List, ◌++◌, length, drop, Result, Ok, Err, Option, Some, None}
 use Rattle.theory.specs.Least.{Least}
 use Rattle.theory.specs.Ways.{EndsIn, FirstIn, LowestOf}
-use Rattle.report.specs.declared.Place.TheVariants as place
-use Rattle.report.specs.declared.Way.{Way}
-use Rattle.report.specs.declared.Way.TheVariants.{Length, Refused, NoWay}
+use Rattle.report.specs.declared.Refusal.{Refusal}
+use Rattle.report.specs.declared.Refusal.TheVariants as refusal
+use Rattle.report.specs.declared.Refusal.TheVariants.{NoWay}
 use Rattle.bits.specs.declared.sets.Set.{Set}
 use Rattle.bits.specs.Sets.{Has, Members}
 use Rattle.bits.specs.Tables.{row_of, HasRow}
@@ -25,15 +25,19 @@ pub record ReadRows (b : List ℕ) (layer : Set) (before : List ℕ) (r : Set) (
   pub each : (u : ℕ) → Has layer u → Members (LeadsTo b u) (row_of after u)
   pub others : (u : ℕ) → ¬ Has layer u → row_of after u ≡ row_of before u
 
--- THE LAYERS from a set: d steps lead from it to the end, and no fewer; or d is V, and no number below V does. Set k of the
--- layers has the vertices that are first reached in k steps, up to d, and those before d have their targets in the rows
+-- THE LAYERS from a set: d steps lead from it to the end, and no fewer. Set k of the layers has the vertices that are first
+-- reached in k steps, up to d, and those before d have their targets in the rows
 pub record Layered (b : List ℕ) (set : Set) (d : ℕ) (layers rows : List ℕ) : Type 0 where
   pub layers_long : length layers ≡ 256
   pub rows_long : length rows ≡ 256
-  pub sooner : (k : ℕ) → k < d → ¬ SomeEnds b set k
-  pub nearest : d < vertices_of b → Least (SomeEnds b set) d
-  pub layer : d < vertices_of b → (k : ℕ) → k ≤ d → Members (FirstIn (system_of b) (Has set) k) (row_of layers k)
-  pub row : d < vertices_of b → (k u : ℕ) → k < d → HasRow layers k u → Members (LeadsTo b u) (row_of rows u)
+  pub nearest : Least (SomeEnds b set) d
+  pub layer : (k : ℕ) → k ≤ d → Members (FirstIn (system_of b) (Has set) k) (row_of layers k)
+  pub row : (k u : ℕ) → k < d → HasRow layers k u → Members (LeadsTo b u) (row_of rows u)
+
+-- the number of steps, if any number below V does it
+pub data LayersFrom (b : List ℕ) (set : Set) (layers rows : List ℕ) : Option ℕ → Type 0 where
+  found : {d : ℕ} → d < vertices_of b → Layered b set d layers rows → LayersFrom b set layers rows (Some d)
+  not_found : ((k : ℕ) → k < vertices_of b → ¬ SomeEnds b set k) → LayersFrom b set layers rows None
 
 -- the vertices of a layer whose row has a vertex of the next
 abbrev pub Leading : List ℕ → Set → Set → ℕ → Type 0
@@ -64,9 +68,9 @@ pub record Writes (b : List ℕ) (set : Set) (d : ℕ) (before after : List ℕ)
   pub left : after ≡ list ++ drop d before
 
 -- 55 and 54 of a set that fits, and the list
-pub data WayFrom (b : List ℕ) (set : Set) (out : List ℕ) : Way → List ℕ → Type 0 where
-  no_way : ((k : ℕ) → k < vertices_of b → ¬ SomeEnds b set k) → WayFrom b set out NoWay out
+pub data WayFrom (b : List ℕ) (set : Set) (out : List ℕ) : Result ℕ Refusal → List ℕ → Type 0 where
+  no_way : ((k : ℕ) → k < vertices_of b → ¬ SomeEnds b set k) → WayFrom b set out (Err NoWay) out
   too_short : {d : ℕ} → d < vertices_of b → Least (SomeEnds b set) d → length out < d
-      → WayFrom b set out (Refused (place.OutputLength d)) out
+      → WayFrom b set out (Err (refusal.OutputLength d)) out
   written : {d : ℕ} {t : List ℕ} → d < vertices_of b → Least (SomeEnds b set) d → d ≤ length out → Writes b set d out t
-      → WayFrom b set out (Length d) t
+      → WayFrom b set out (Ok d) t

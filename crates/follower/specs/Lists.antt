@@ -1,9 +1,10 @@
 -- Lists of calls, as `run` of the theory has them: each way to call the follower is a function from a state and a call
 -- to an answer and a state. A list begins at a fresh start.
-use Rattle.std.specs.Prelude.{ℕ, ◌≡◌, Bool, false, List, map}
+use Rattle.std.specs.Prelude.{ℕ, ◌≡◌, Bool, false, List, map, Result}
 use Rattle.theory.specs.Followers.{Responds, Follows, Answers}
 use Rattle.theory.specs.Events.{Call, restart, event, Answer, event_rule}
-use Rattle.report.specs.declared.Followed.{Followed}
+use Rattle.report.specs.declared.Refusal.{Refusal}
+use Rattle.report.specs.declared.Response.{Response}
 use Rattle.report.specs.Numbers.{flag}
 use Rattle.chart.specs.Systems.{system_of}
 use Rattle.follower.specs.declared.Follower.{Follower}
@@ -11,15 +12,15 @@ use Rattle.follower.specs.declared.Moved.{Moved}
 use Rattle.follower.specs.States.{InState, kept_in, no_state}
 use Rattle.follower.specs.Calls.{followed_as, called_on}
 
-abbrev pub answer_and_state : Moved → Followed × Follower
+abbrev pub answer_and_state : Moved → Result Response Refusal × Follower
 answer_and_state m = (m.answer, m.follower)
 
 -- IN PLACE: the state itself is lent
-abbrev pub call_in_place : List ℕ → Follower → Call → Followed × Follower
+abbrev pub call_in_place : List ℕ → Follower → Call → Result Response Refusal × Follower
 call_in_place b f c = answer_and_state (called_on b f c)
 
 -- BY VALUE: a restart takes no state
-abbrev pub call_by_value : List ℕ → Follower → Call → Followed × Follower
+abbrev pub call_by_value : List ℕ → Follower → Call → Result Response Refusal × Follower
 call_by_value b f restart = answer_and_state (called_on b no_state restart)
 call_by_value b f (event a) = answer_and_state (called_on b f (event a))
 
@@ -36,7 +37,7 @@ RuleAnswers b cs xs spoilt = Answers event_rule (system_of b) false cs xs spoilt
 
 -- the answers to a list of calls are the rule's over the chart of the body, from a fresh start, and so is the mark of the state
 -- that they leave
-pub record ByRule (b : List ℕ) (cs : List Call) (ys : List Followed) (left : Follower) : Type 1 where
+pub record ByRule (b : List ℕ) (cs : List Call) (ys : List (Result Response Refusal)) (left : Follower) : Type 1 where
   pub answers : List Answer
   pub written : ys ≡ map followed_as answers
   pub spoilt : Bool

@@ -1,16 +1,15 @@
 -- What document 02 says of each answer of the shortest way (C-11, C-15), and of the lent bytes after it; by the follower's
 -- own events.
-use Rattle.std.specs.Prelude.{ℕ, ◌<◌, ◌≤◌, ◌≡◌, Bool, length}
+use Rattle.std.specs.Prelude.{ℕ, ◌<◌, ◌≤◌, ◌≡◌, Bool, length, Result, Ok, Err}
 use mathlib.Core.List.{List, map, Memᴰ}
 use Rattle.theory.specs.Events.{event}
 use Rattle.theory.specs.Runs.{run, run_leaves}
 use Rattle.theory.specs.Ways.{Shortest}
-use Rattle.report.specs.declared.Followed.{Followed}
-use Rattle.report.specs.declared.Followed.TheVariants.{Taken}
-use Rattle.report.specs.declared.Place.{Place}
-use Rattle.report.specs.declared.Place.TheVariants as place
-use Rattle.report.specs.declared.Way.{Way}
-use Rattle.report.specs.declared.Way.TheVariants.{Length, Refused, NoWay}
+use Rattle.report.specs.declared.Refusal.{Refusal}
+use Rattle.report.specs.declared.Refusal.TheVariants as refusal
+use Rattle.report.specs.declared.Refusal.TheVariants.{NoWay}
+use Rattle.report.specs.declared.Response.{Response}
+use Rattle.report.specs.declared.Response.TheVariants.{Taken}
 use Rattle.bits.specs.Bits.{bytes_with}
 use Rattle.chart.specs.Bodies.{WellFormed}
 use Rattle.chart.specs.Refusals.{ChartRefused}
@@ -19,7 +18,7 @@ use Rattle.follower.specs.FollowerAnswers.{StateFits}
 use Rattle.follower.specs.Calls.{lent_on}
 
 -- EVENTS from a state, each on the bytes that the one before left: the answers, and the bytes after them
-abbrev pub event_answers : (b s xs : List ℕ) → List Followed
+abbrev pub event_answers : (b s xs : List ℕ) → List (Result Response Refusal)
 event_answers b s xs = run (lent_on b) (map event xs) s
 
 abbrev pub after_events : (b s xs : List ℕ) → List ℕ
@@ -35,8 +34,8 @@ abbrev pub ShortestWay : (b s xs : List ℕ) → Type 0
 ShortestWay b s = Shortest (EndsAfter b s)
 
 -- each answer is "taken"
-abbrev pub OnlyTaken : List Followed → Type 0
-OnlyTaken ys = (y : Followed) → Memᴰ y ys → (end : Bool) × (offered : ℕ) × (y ≡ Taken end offered)
+abbrev pub OnlyTaken : List (Result Response Refusal) → Type 0
+OnlyTaken ys = (y : Result Response Refusal) → Memᴰ y ys → (end : Bool) × (offered : ℕ) × (y ≡ Ok (Taken end offered))
 
 -- no list of events reaches the end
 abbrev pub NoEnd : (b s : List ℕ) → Type 0
@@ -49,16 +48,16 @@ pub record StatePasses (b s : List ℕ) : Type 0 where
   pub fits : StateFits b (state_in s)
 
 -- EACH ANSWER, with the lent bytes after it; a refusal leaves them as they were
-pub data WayAnswer (b s out : List ℕ) : Way → List ℕ → Type 0 where
+pub data WayAnswer (b s out : List ℕ) : Result ℕ Refusal → List ℕ → Type 0 where
   -- 20, 21
-  other_chart : {p : Place} → ChartRefused b p → WayAnswer b s out (Refused p) out
+  other_chart : {p : Refusal} → ChartRefused b p → WayAnswer b s out (Err p) out
   -- 53
-  no_state_lem : WellFormed b → ¬ StatePasses b s → WayAnswer b s out (Refused place.FollowerSet) out
+  no_state_lem : WellFormed b → ¬ StatePasses b s → WayAnswer b s out (Err refusal.FollowerSet) out
   -- 55
-  no_way : StatePasses b s → NoEnd b s → WayAnswer b s out NoWay out
+  no_way : StatePasses b s → NoEnd b s → WayAnswer b s out (Err NoWay) out
   -- 54, with the bytes needed
   too_short : {xs : List ℕ} → StatePasses b s → ShortestWay b s xs → length out < length xs
-      → WayAnswer b s out (Refused (place.OutputLength (length xs))) out
+      → WayAnswer b s out (Err (refusal.OutputLength (length xs))) out
   -- the list is written to the beginning, and the bytes past it are kept
   written : {xs : List ℕ} → StatePasses b s → ShortestWay b s xs → length xs ≤ length out
-      → WayAnswer b s out (Length (length xs)) (bytes_with xs out)
+      → WayAnswer b s out (Ok (length xs)) (bytes_with xs out)

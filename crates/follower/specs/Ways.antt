@@ -1,12 +1,11 @@
 -- The shortest way (document 02, C-11 and C-15) from a follower's state to the end, as tests that run: the answer, and the lent
 -- bytes after it.
-use Rattle.std.specs.Prelude.{ℕ, cond, List, eqb, ltb, length}
+use Rattle.std.specs.Prelude.{ℕ, cond, List, eqb, ltb, length, Result, Ok, Err}
 use Rattle.theory.specs.WayTests.{steps_to_end, lowest_list}
-use Rattle.report.specs.declared.Place.TheVariants as place
-use Rattle.report.specs.declared.Stage.{Stage}
-use Rattle.report.specs.declared.Stage.TheVariants as stage
-use Rattle.report.specs.declared.Way.{Way}
-use Rattle.report.specs.declared.Way.TheVariants.{Length, Refused, NoWay}
+use Rattle.report.specs.Stages.{after}
+use Rattle.report.specs.declared.Refusal.{Refusal}
+use Rattle.report.specs.declared.Refusal.TheVariants as refusal
+use Rattle.report.specs.declared.Refusal.TheVariants.{NoWay}
 use Rattle.bits.specs.Bits.{bytes_with}
 use Rattle.chart.specs.Bodies.{vertices_of}
 use Rattle.chart.specs.Checks.{check_of}
@@ -21,29 +20,23 @@ events_to_end b s = cond (kept_in (state_in s)) (vertices_of b) (steps_to_end (m
 unfoldable pub shortest_list : List ℕ → List ℕ → List ℕ
 shortest_list b s = lowest_list (machine_of b) (events_to_end b s) (members_of (state_in s))
 
--- a stage first
-abbrev pub way_after : Stage → Way → Way
-way_after stage.Passed x = x
-way_after (stage.Refused p) x = Refused p
-
 -- 53 of bytes: so many as a state has, and the state that they hold is ready
-abbrev pub bytes_stage : List ℕ → List ℕ → Stage
-bytes_stage b s = cond (eqb (length s) state_size) (state_stage b (state_in s)) (stage.Refused place.FollowerSet)
+abbrev pub bytes_stage : List ℕ → List ℕ → Result Unit Refusal
+bytes_stage b s = cond (eqb (length s) state_size) (state_stage b (state_in s)) (Err refusal.FollowerSet)
 
 -- the answer for so many lent bytes: 20, 21, 53, 55, 54
-unfoldable pub way_of : List ℕ → List ℕ → ℕ → Way
+unfoldable pub way_of : List ℕ → List ℕ → ℕ → Result ℕ Refusal
 way_of b s lent =
-    way_after (check_of b)
-    (way_after (bytes_stage b s)
+    after (check_of b)
+    (after (bytes_stage b s)
     (cond (ltb (events_to_end b s) (vertices_of b))
-    (cond (ltb lent (events_to_end b s)) (Refused (place.OutputLength (events_to_end b s))) (Length (events_to_end b s)))
-    NoWay))
+    (cond (ltb lent (events_to_end b s)) (Err (refusal.OutputLength (events_to_end b s))) (Ok (events_to_end b s)))
+    (Err NoWay)))
 
 -- the lent bytes after the call: as they were, or the list and what stood past it
-abbrev pub bytes_for : Way → List ℕ → List ℕ → List ℕ
-bytes_for (Length n) xs out = bytes_with xs out
-bytes_for (Refused p) xs out = out
-bytes_for NoWay xs out = out
+abbrev pub bytes_for : Result ℕ Refusal → List ℕ → List ℕ → List ℕ
+bytes_for (Ok n) xs out = bytes_with xs out
+bytes_for (Err p) xs out = out
 
 unfoldable pub way_left : List ℕ → List ℕ → List ℕ → List ℕ
 way_left b s out = bytes_for (way_of b s (length out)) (shortest_list b s) out

@@ -8,19 +8,19 @@ ghost use Rattle.std.specs.Prelude.{◌≡◌, true, ◌↔◌, length};
 ghost use Rattle.theory.specs.Events.{restart, event};
 ghost use Rattle.chart.specs.Bodies.{vertices_of};
 ghost use Rattle.chart.specs.Checks.{check_of};
-ghost use Rattle.chart.specs.Leaving.{Begins};
 ghost use Rattle.follower.specs.States.{state_size, bytes_in, state_in, members_of, no_state};
-ghost use Rattle.follower.specs.Parts.{Same, Fits, StepBy, CountOffered, Tells};
-ghost use Rattle.follower.specs.Calls.{ruled_of, called_on, lent_on, by_other_length};
+ghost use Rattle.follower.specs.Parts.{Same, Fits, StepBy, SetShows, TakenTo};
+ghost use Rattle.follower.specs.Calls.{asked, ruled_of, called_on, lent_on, by_other_length};
 ghost use Rattle.follower.specs.Ways.{way_of, way_left};
 
 use bits::{Set, byte, read_set, set_bytes};
-use chart::images::{count_marks, image, offered};
-use report::{Followed, Place, Stage, Way};
+use chart::images::count_marks;
+use chart::{Chart, fill_begins};
+use report::{Refusal, Response};
 use ways::way_from;
 
 // The state: a set of vertices in sixteen bytes, bits as in a row of a relation, and a mark, 1 where it is spoilt, else 0.
-#[derive(Clone, Copy)]
+#[derive(Clone, Copy, Debug, PartialEq, Eq)]
 pub struct Follower {
     pub set: [u8; 16],
     pub mark: u8,
@@ -30,17 +30,24 @@ pub struct Follower {
 pub const STATE_SIZE: usize = 17;
 
 // What a call by value hands back: its answer, and the state after it.
-#[derive(Clone, Copy)]
+#[derive(Clone, Copy, Debug, PartialEq, Eq)]
 pub struct Moved {
-    pub answer: Followed,
+    pub answer: Result<Response, Refusal>,
     pub follower: Follower,
 }
 
-// What an event makes of a set: whether it is taken, and the set after it.
-#[derive(Clone, Copy)]
-struct Stepped {
-    taken: bool,
-    set: Set,
+// What a call asks of a follower.
+#[derive(Clone, Copy, Debug, PartialEq, Eq)]
+enum Call {
+    Restart,
+    Event(u8),
+}
+
+// What a set shows: whether the end is in it, and how many different actions its vertices offer.
+#[derive(Clone, Copy, Debug, PartialEq, Eq)]
+struct Shown {
+    end: bool,
+    offered: usize,
 }
 
 // Whether 53 passes: some vertex is in the set, and none of V or above, and the mark is 0 or 1.
@@ -58,58 +65,53 @@ fn state_fits(set: Set, mark: u8, vertices: usize) -> bool
 }
 
 // 53 of a set and its mark.
-fn ready(chart: &[u8], set: Set, mark: u8) -> Stage
-    requires { check_of chart.now ≡ Stage.Passed }
-    ensures { (Fits (vertices_of chart.now) set mark → result ≡ Stage.Passed)
-        × (¬ Fits (vertices_of chart.now) set mark → result ≡ Stage.Refused Place.FollowerSet) }
+fn ready(chart: &[u8], set: Set, mark: u8) -> Result<(), Refusal>
+    requires { check_of chart.now ≡ Ok tt }
+    ensures { (Fits (vertices_of chart.now) set mark → result ≡ Ok tt)
+        × (¬ Fits (vertices_of chart.now) set mark → result ≡ Err Refusal.FollowerSet) }
 {
     if state_fits(set, mark, byte(chart, 0)) {
-        return Stage::Passed;
+        return Ok(());
     }
-    Stage::Refused(Place::FollowerSet)
+    Err(Refusal::FollowerSet)
 }
 
-// The step from a set by an action.
-fn step(chart: &[u8], begins: &[usize; 129], set: Set, action: usize) -> Stepped
-    requires { (check_of chart.now ≡ Stage.Passed) × Begins chart.now begins.now }
-    ensures { StepBy chart.now set action result }
+// The set after the step from a set by an action, where the action has a target.
+fn step(chart: &Chart<'_>, set: Set, action: usize) -> Option<Set>
+    ensures { StepBy chart.now.body.now set action result }
 {
-    let targets = image(chart, begins, set, action);
+    let targets = chart.image(set, action);
     if targets.is_empty() {
-        return Stepped { taken: false, set };
+        return None;
     }
-    Stepped {
-        taken: true,
-        set: targets,
+    Some(targets)
+}
+
+fn show(chart: &Chart<'_>, set: Set) -> Shown
+    ensures { SetShows chart.now.body.now set result }
+{
+    let marks = chart.offered(set);
+    Shown {
+        end: set.contains(0),
+        offered: count_marks(&marks),
     }
 }
 
-// How many different actions the vertices of a set offer.
-fn count_offered(chart: &[u8], begins: &[usize; 129], set: Set) -> usize
-    requires { (check_of chart.now ≡ Stage.Passed) × Begins chart.now begins.now }
-    ensures { CountOffered chart.now set result }
+// A call that is taken to a set.
+fn taken(chart: &Chart<'_>, set: Set) -> Moved
+    ensures { TakenTo chart.now.body.now set result }
 {
-    let marks = offered(chart, begins, set);
-    count_marks(&marks)
-}
-
-// The answer after a step.
-fn told(chart: &[u8], begins: &[usize; 129], step: Stepped) -> Followed
-    requires { (check_of chart.now ≡ Stage.Passed) × Begins chart.now begins.now }
-    ensures { Tells chart.now step result }
-{
-    let set = step.set;
-    let end = set.contains(0);
-    let count = count_offered(chart, begins, set);
-    if step.taken {
-        return Followed::Taken(end, count);
+    let Shown { end, offered } = show(chart, set);
+    let left = set_bytes(set);
+    Moved {
+        answer: Ok(Response::Taken(end, offered)),
+        follower: Follower { set: left, mark: 0 },
     }
-    Followed::NotPossible(end, count)
 }
 
 // An event where 20, 21 and 53 pass; the set is the state's.
 fn event_from(chart: &[u8], follower: Follower, set: Set, action: u8) -> Moved
-    requires { (check_of chart.now ≡ Stage.Passed)
+    requires { (check_of chart.now ≡ Ok tt)
         × Same set (members_of follower)
         × Fits (vertices_of chart.now) set follower.mark }
     ensures { result ≡ ruled_of chart.now follower (event action) }
@@ -117,40 +119,67 @@ fn event_from(chart: &[u8], follower: Follower, set: Set, action: u8) -> Moved
     let mark = follower.mark;
     if mark == 1 {
         return Moved {
-            answer: Followed::Spoilt,
+            answer: Ok(Response::Spoilt),
             follower,
         };
     }
-    let begins = chart::begins(chart);
-    let step = self::step(chart, &begins, set, action as usize);
-    let answer = told(chart, &begins, step);
-    if !step.taken {
-        let kept = follower.set;
-        return Moved {
-            answer,
-            follower: Follower { set: kept, mark: 1 },
-        };
-    }
-    let left = set_bytes(step.set);
-    Moved {
-        answer,
-        follower: Follower { set: left, mark: 0 },
+    let mut begins = [0; 129];
+    fill_begins(chart, &mut begins);
+    let chart = Chart::new(chart, &begins);
+    match step(&chart, set, action as usize) {
+        Some(targets) => taken(&chart, targets),
+        None => {
+            let Shown { end, offered } = show(&chart, set);
+            let kept = follower.set;
+            Moved {
+                answer: Ok(Response::NotPossible(end, offered)),
+                follower: Follower { set: kept, mark: 1 },
+            }
+        }
     }
 }
 
 // An event over a body that passes 20 and 21.
 fn event_on(chart: &[u8], follower: Follower, action: u8) -> Moved
-    requires { (check_of chart.now ≡ Stage.Passed) × (length follower.set ≡ 16) }
+    requires { (check_of chart.now ≡ Ok tt) × (length follower.set ≡ 16) }
     ensures { result ≡ called_on chart.now follower (event action) }
 {
     let bytes = follower.set;
     let set = read_set(&bytes, 0);
     match ready(chart, set, follower.mark) {
-        Stage::Refused(place) => Moved {
-            answer: Followed::Refused(place),
+        Err(refusal) => Moved {
+            answer: Err(refusal),
             follower,
         },
-        Stage::Passed => event_from(chart, follower, set, action),
+        Ok(()) => event_from(chart, follower, set, action),
+    }
+}
+
+// A restart over a body that passes 20 and 21.
+fn restart_on(chart: &[u8]) -> Moved
+    requires { check_of chart.now ≡ Ok tt }
+    ensures { result ≡ ruled_of chart.now no_state restart }
+{
+    let mut begins = [0; 129];
+    fill_begins(chart, &mut begins);
+    let chart = Chart::new(chart, &begins);
+    taken(&chart, Set::empty().with(chart.start()))
+}
+
+// One call. A refusal hands the state back as it came. Inlined, so that each kind of call has its own part alone.
+#[inline(always)]
+fn called(follower: Follower, chart: &[u8], call: Call) -> Moved
+    ensures { result ≡ called_on chart.now follower (asked call) }
+{
+    match chart::check(chart) {
+        Err(refusal) => Moved {
+            answer: Err(refusal),
+            follower,
+        },
+        Ok(()) => match call {
+            Call::Restart => restart_on(chart),
+            Call::Event(action) => event_on(chart, follower, action),
+        },
     }
 }
 
@@ -158,54 +187,18 @@ fn event_on(chart: &[u8], follower: Follower, action: u8) -> Moved
 pub fn event(follower: Follower, chart: &[u8], action: u8) -> Moved
     ensures { result ≡ called_on chart.now follower (event action) }
 {
-    match chart::check(chart) {
-        Stage::Refused(place) => Moved {
-            answer: Followed::Refused(place),
-            follower,
-        },
-        Stage::Passed => event_on(chart, follower, action),
-    }
-}
-
-// A restart over a body that passes 20 and 21.
-fn restart_on(chart: &[u8]) -> Moved
-    requires { check_of chart.now ≡ Stage.Passed }
-    ensures { result ≡ ruled_of chart.now no_state restart }
-{
-    let set = Set::empty().with(byte(chart, 1));
-    let begins = chart::begins(chart);
-    let answer = told(chart, &begins, Stepped { taken: true, set });
-    let left = set_bytes(set);
-    Moved {
-        answer,
-        follower: Follower { set: left, mark: 0 },
-    }
-}
-
-// A restart; a refusal hands back the state that is given.
-fn restart_from(follower: Follower, chart: &[u8]) -> Moved
-    ensures { result ≡ called_on chart.now follower restart }
-{
-    match chart::check(chart) {
-        Stage::Refused(place) => Moved {
-            answer: Followed::Refused(place),
-            follower,
-        },
-        Stage::Passed => restart_on(chart),
-    }
+    called(follower, chart, Call::Event(action))
 }
 
 // A restart. A refusal hands back the empty set, not spoilt.
 pub fn restart(chart: &[u8]) -> Moved
     ensures { result ≡ called_on chart.now no_state restart }
 {
-    restart_from(
-        Follower {
-            set: [0u8; 16],
-            mark: 0,
-        },
-        chart,
-    )
+    let no_state = Follower {
+        set: [0; 16],
+        mark: 0,
+    };
+    called(no_state, chart, Call::Restart)
 }
 
 // The state that lent bytes hold.
@@ -214,11 +207,7 @@ fn state_of(state: &[u8]) -> Follower
     ensures { result ≡ state_in state.now }
 {
     let mut set = [0u8; 16];
-    let mut i: usize = 0;
-    while i < 16 {
-        set[i] = state[i];
-        i += 1;
-    }
+    set.copy_from_slice(&state[..16]);
     Follower {
         set,
         mark: state[16],
@@ -231,120 +220,97 @@ fn put_state(state: &mut [u8], follower: Follower)
     ensures { state.new ≡ bytes_in follower }
 {
     let set = follower.set;
-    let mut i: usize = 0;
-    while i < 16 {
-        state[i] = set[i];
-        i += 1;
-    }
+    state[..16].copy_from_slice(&set);
     state[16] = follower.mark;
 }
 
 // 53 of another number of lent bytes than the state's, after 20 and 21.
-fn other_length(chart: &[u8]) -> Followed
+fn other_length(chart: &[u8]) -> Result<Response, Refusal>
     ensures { result ≡ by_other_length (check_of chart.now) }
 {
-    match chart::check(chart) {
-        Stage::Refused(place) => Followed::Refused(place),
-        Stage::Passed => Followed::Refused(Place::FollowerSet),
-    }
+    chart::check(chart)?;
+    Err(Refusal::FollowerSet)
 }
 
-// One event, of a state in lent bytes. A refusal changes none of them.
-pub fn event_lent(chart: &[u8], state: &mut [u8], action: u8) -> Followed
-    ensures { (result ≡ (lent_on chart.now state.old (event action)).0)
-        × (state.new ≡ (lent_on chart.now state.old (event action)).1) }
+// One call, of a state in lent bytes. A refusal changes none of them.
+#[inline(always)]
+fn called_lent(chart: &[u8], state: &mut [u8], call: Call) -> Result<Response, Refusal>
+    ensures answer { result ≡ (lent_on chart.now state.old (asked call)).0 }
+    ensures left { state.new ≡ (lent_on chart.now state.old (asked call)).1 }
 {
     if state.len() != STATE_SIZE {
         return other_length(chart);
     }
-    let moved = event(state_of(state), chart, action);
+    let moved = called(state_of(state), chart, call);
     put_state(state, moved.follower);
     moved.answer
 }
 
+// One event, of a state in lent bytes. A refusal changes none of them.
+pub fn event_lent(chart: &[u8], state: &mut [u8], action: u8) -> Result<Response, Refusal>
+    ensures { (result ≡ (lent_on chart.now state.old (event action)).0)
+        × (state.new ≡ (lent_on chart.now state.old (event action)).1) }
+{
+    called_lent(chart, state, Call::Event(action))
+}
+
 // A restart, of a state in lent bytes. A refusal changes none of them.
-pub fn restart_lent(chart: &[u8], state: &mut [u8]) -> Followed
+pub fn restart_lent(chart: &[u8], state: &mut [u8]) -> Result<Response, Refusal>
     ensures { (result ≡ (lent_on chart.now state.old restart).0)
         × (state.new ≡ (lent_on chart.now state.old restart).1) }
 {
-    if state.len() != STATE_SIZE {
-        return other_length(chart);
-    }
-    let moved = restart_from(state_of(state), chart);
-    put_state(state, moved.follower);
+    called_lent(chart, state, Call::Restart)
+}
+
+// One call, of a follower that is lent and updated where it stands.
+fn called_in_place(follower: &mut Follower, chart: &[u8], call: Call) -> Result<Response, Refusal>
+    ensures answer { result ≡ (called_on chart.now follower.old (asked call)).answer }
+    ensures left { follower.new ≡ (called_on chart.now follower.old (asked call)).follower }
+{
+    let moved = called(*follower, chart, call);
+    *follower = moved.follower;
     moved.answer
 }
 
 // One event, of a follower that is lent and updated where it stands.
-pub fn event_in_place(follower: &mut Follower, chart: &[u8], action: u8) -> Followed
+pub fn event_in_place(
+    follower: &mut Follower,
+    chart: &[u8],
+    action: u8,
+) -> Result<Response, Refusal>
     ensures { (result ≡ (called_on chart.now follower.old (event action)).answer)
         × (follower.new
         ≡ (called_on chart.now follower.old (event action)).follower) }
 {
-    let moved = event(*follower, chart, action);
-    *follower = moved.follower;
-    moved.answer
+    called_in_place(follower, chart, Call::Event(action))
 }
 
 // A restart, of a follower that is lent and updated where it stands.
-pub fn restart_in_place(follower: &mut Follower, chart: &[u8]) -> Followed
+pub fn restart_in_place(follower: &mut Follower, chart: &[u8]) -> Result<Response, Refusal>
     ensures { (result ≡ (called_on chart.now follower.old restart).answer)
         × (follower.new ≡ (called_on chart.now follower.old restart).follower) }
 {
-    let moved = restart_from(*follower, chart);
-    *follower = moved.follower;
-    moved.answer
-}
-
-// The functions above, called on a local: they stand for a caller that lends a follower.
-pub fn event_through(follower: Follower, chart: &[u8], action: u8) -> Moved
-    ensures { result ≡ called_on chart.now follower (event action) }
-{
-    let mut lent = follower;
-    let answer = event_in_place(&mut lent, chart, action);
-    Moved {
-        answer,
-        follower: lent,
-    }
-}
-
-pub fn restart_through(follower: Follower, chart: &[u8]) -> Moved
-    ensures { result ≡ called_on chart.now follower restart }
-{
-    let mut lent = follower;
-    let answer = restart_in_place(&mut lent, chart);
-    Moved {
-        answer,
-        follower: lent,
-    }
+    called_in_place(follower, chart, Call::Restart)
 }
 
 // Writes the shortest list of events after which the end is in the set of a state, of those the lowest, to the beginning of
 // the lent bytes; those past it are kept. The state is only read; from a spoilt one no list does it. A refusal changes no
 // lent byte.
-pub fn shortest_way(chart: &[u8], state: &[u8], out: &mut [u8]) -> Way
+pub fn shortest_way(chart: &[u8], state: &[u8], out: &mut [u8]) -> Result<usize, Refusal>
     ensures { (result ≡ way_of chart.now state.now (length out.old))
         × (out.new ≡ way_left chart.now state.now out.old) }
 {
-    match chart::check(chart) {
-        Stage::Refused(place) => {
-            return Way::Refused(place);
-        }
-        Stage::Passed => {}
-    }
+    chart::check(chart)?;
     if state.len() != STATE_SIZE {
-        return Way::Refused(Place::FollowerSet);
+        return Err(Refusal::FollowerSet);
     }
     let mark = state[16];
     let set = read_set(state, 0);
-    match ready(chart, set, mark) {
-        Stage::Refused(place) => {
-            return Way::Refused(place);
-        }
-        Stage::Passed => {}
-    }
+    ready(chart, set, mark)?;
     if mark == 1 {
-        return Way::NoWay;
+        return Err(Refusal::NoWay);
     }
-    way_from(chart, set, out)
+    let mut begins = [0; 129];
+    fill_begins(chart, &mut begins);
+    way_from(&Chart::new(chart, &begins), set, out)
 }

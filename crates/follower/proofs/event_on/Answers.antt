@@ -6,15 +6,15 @@ use Rattle.follower.proofs.event_on.Goals as goal
 pub event_from-requires : goal.event_from-requires
 event_from-requires c =
     let S = read_same c.args.follower c.read_set-set.ensures in
-    (c.requires.0, S, ready_fits c.args.chart.now c.args.follower S c.ready.ensures c.in-Passed.is)
+    (c.requires.0, S, ready_fits c.args.chart.now c.args.follower S c.ready.ensures c.in-Ok.is)
 
-pub returns-in-Refused : goal.returns-in-Refused
-returns-in-Refused c =
+pub returns-in-Err : goal.returns-in-Err
+returns-in-Err c =
     let S = read_same c.args.follower c.read_set-set.ensures in
-    sym (called_unready _ _ _ c.requires.0 (sym (ready_stage c.args.chart.now c.args.follower S c.ready.ensures) ∙ c.in-Refused.is))
+    sym (called_unready _ _ _ c.requires.0 (sym (ready_stage c.args.chart.now c.args.follower S c.ready.ensures) ∙ c.in-Err.is))
 
-pub returns-in-Passed : goal.returns-in-Passed
-returns-in-Passed c =
+pub returns-in-Ok : goal.returns-in-Ok
+returns-in-Ok c =
     let S = read_same c.args.follower c.read_set-set.ensures in
     c.event_from.ensures
-    ∙ sym (called_ruled _ _ _ c.requires.0 (sym (ready_stage c.args.chart.now c.args.follower S c.ready.ensures) ∙ c.in-Passed.is))
+    ∙ sym (called_ruled _ _ _ c.requires.0 (sym (ready_stage c.args.chart.now c.args.follower S c.ready.ensures) ∙ c.in-Ok.is))

@@ -1,32 +1,32 @@
+use mathlib.Core.Path.{sym, ◌∙◌, subst}
 use native.Mathlib.Omega.{arith}
-use Rattle.bits.proofs.Visits.{visit_less, left_all, left_next, left_after_visit, left_some, left_none}
-use Rattle.follower.proofs.Layers.{reading_none, reading_more, reading_all}
+use Rattle.bits.specs.declared.walks.Numbers.{Numbers}
+use Rattle.bits.proofs.Given.{walk, given_has}
+use Rattle.bits.proofs.Listed.{none_members}
+use Rattle.bits.proofs.Visits.{visit}
+use Rattle.follower.proofs.Layers.{Reading, reading_none, reading_more, reading_all}
 use Rattle.follower.proofs.ways.read_rows.Goals as goal
 
 pub loop-u-init : goal.loop-u-init
-loop-u-init c = (left_all c.lowest-u.ensures, reading_none c.requires.2 c.empty-all.ensures)
+loop-u-init c =
+    subst (λ (n : Numbers). Reading c.args.chart.now.body.now c.args.layer n.left c.args.rows.now c.empty-all.result c.args.rows.now)
+    (sym (c.into_iter-u-iterator.ensures.into_iter_gives ∙ c.members-u-items.ensures))
+    (reading_none c.requires c.empty-all.ensures)
 
-pub target_row-targets-requires : goal.target_row-targets-requires
-target_row-targets-requires c = let p = c.requires in (p.0, p.1, c.loop-u-test.true)
+pub targets-targets-requires : goal.targets-targets-requires
+targets-targets-requires c =
+    let W = walk c.into_iter-u-iterator.ensures.into_iter_gives c.members-u-items.ensures c.loop-u.yielded_by in
+    (given_has W c.in-Some.ensures.steps).below
 
 pub put_row-requires : goal.put_row-requires
-put_row-requires c = omega (arith, c.loop-u-test.true, c.loop-u.invariant.1.long)
-
-pub without_lowest-left-requires : goal.without_lowest-left-requires
-without_lowest-left-requires c =
-    left_some c.loop-u.invariant.0 c.loop-u-test.true
-
-pub loop-u-smaller : goal.loop-u-smaller
-loop-u-smaller c =
-    visit_less (left_next c.loop-u.invariant.0 c.loop-u-test.true c.without_lowest-left.ensures)
+put_row-requires c =
+    let W = walk c.into_iter-u-iterator.ensures.into_iter_gives c.members-u-items.ensures c.loop-u.yielded_by in
+    omega (arith, (given_has W c.in-Some.ensures.steps).below, c.loop-u.invariant.long)
 
 pub loop-u-preserved : goal.loop-u-preserved
 loop-u-preserved c =
-    let i = c.loop-u.invariant in
-    let T = left_next i.0 c.loop-u-test.true c.without_lowest-left.ensures in (
-      left_after_visit T c.lowest-u-in-loop-u.ensures,
-      reading_more i.1 T c.target_row-targets.ensures c.put_row.ensures c.union-all.ensures,
-    )
+    let W = walk c.into_iter-u-iterator.ensures.into_iter_gives c.members-u-items.ensures c.loop-u.yielded_by in
+    reading_more c.loop-u.invariant (visit W c.in-Some.ensures.steps) c.targets-targets.ensures c.put_row.ensures c.union-all.ensures
 
 pub returns : goal.returns
-returns c = let i = c.loop-u.invariant in reading_all i.1 (left_none i.0 c.loop-u-test.false)
+returns c = reading_all c.loop-u.invariant (none_members _ c.in-None.ensures.steps.0)

@@ -1,9 +1,5 @@
-use Prim.Native.Nat.{◌-◌}
 use Rattle.follower.proofs.Walks.{Walking}
 use Rattle.follower.proofs.ways.write_list.Given as goal
 
 abbrev pub invariant-loop-i : goal.invariant-loop-i
-invariant-loop-i l = Walking l.chart l.d l.layers l.initial.out l.i l.near l.out
-
-abbrev pub decreases-loop-i : goal.decreases-loop-i
-decreases-loop-i l = l.d - l.i
+invariant-loop-i l = Walking l.chart.body.now l.d l.layers l.initial.out l.i l.near l.out
