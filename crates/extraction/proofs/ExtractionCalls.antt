@@ -1,27 +1,23 @@
 -- An expression for a chart: what the definitions answer and leave is what document 02 says, both ways; and so is what the code
 -- finds.
 use Prim.Native.Nat.{ℕ, ◌*◌, ◌≤◌, ◌<◌}
-use mathlib.Core.Path.{◌≡◌, refl, sym, ap, ◌∙◌, subst}
-use mathlib.Core.Logic.{◌≢◌, ◌↔◌, by_cases}
-use mathlib.Core.List.{List}
+use mathlib.Core.Path.{◌≡◌, refl, sym, ap, ◌∙◌}
+use mathlib.Core.Logic.{◌↔◌, by_cases}
+use mathlib.Core.List.{List, ◌++◌}
 use mathlib.Core.Option.{Option, some}
 use native.Mathlib.Decide.{ℕ_discrete, dec_lt}
 use native.Mathlib.Omega.{arith}
-use lib.ListN.{length, take}
+use lib.ListN.{length, take, drop}
+use lib.Seq.{length-take-le}
 use borrow.Author.Tests.{lt-ltb, le-ltb}
 use Rattle.theory.specs.Expressions.{Expr}
 use Rattle.theory.specs.Nodes.{Node}
-use Rattle.theory.specs.Texts.{Text}
 use Rattle.theory.specs.PostOrders.{PostOrder, size}
 use Rattle.theory.proofs.TextTests.{fitting_iff, fitting_none, fitting_not}
-use Rattle.report.specs.declared.Place.{Place}
-use Rattle.report.specs.declared.Place.TheVariants as place
-use Rattle.report.specs.declared.Stage.{Stage}
-use Rattle.report.specs.declared.Stage.TheVariants as stage
-use Rattle.report.specs.declared.Labelled.{Labelled}
-use Rattle.report.specs.declared.Labelled.TheVariants as labelled
-use Rattle.report.specs.declared.Extracted.{Extracted}
-use Rattle.report.specs.declared.Extracted.TheVariants.{Length, Refused, TooManyNodes}
+use Rattle.std.specs.Prelude.{Result, Ok, Err, Some, None}
+use Rattle.report.specs.declared.Refusal.{Refusal}
+use Rattle.report.specs.declared.Refusal.TheVariants as refusal
+use Rattle.report.specs.declared.Refusal.TheVariants.{TooManyNodes}
 use Rattle.bits.specs.Bits.{Bytes, bytes_with}
 use Rattle.chart.specs.Bodies.{start_of, count_of}
 use Rattle.chart.specs.Checks.{check_of}
@@ -38,55 +34,54 @@ use Rattle.extraction.specs.ExtractionAnswers.{DrawnPasses, StartText, IsTable, 
 use Rattle.extraction.specs.ExtractionAnswers.{other_chart, other_labels, too_many, too_short, written}
 use Rattle.extraction.specs.Writers.{NodesOf, nodes, Wrote}
 use Rattle.extraction.proofs.NodeLaws.{nodes_end}
-use Rattle.extraction.proofs.WriterLaws.{has_written, has_not}
 use Rattle.extraction.proofs.StartTexts.{start_text_lem, text_table, one_table}
 
 -- the answer x and the lent bytes t are what is handed back and left
-abbrev pub ExtractionGives : (b labels out : List ℕ) → Extracted → List ℕ → Type 0
+abbrev pub ExtractionGives : (b labels out : List ℕ) → Result ℕ Refusal → List ℕ → Type 0
 ExtractionGives b labels out x t = (extracted_of b labels (length out) ≡ x) × (extracted_left b labels out ≡ t)
 
 -- 30 passes where the labelling does
-pub passed_long : (b labels : List ℕ) {n : ℕ} → labelled.Passed n ≡ labelled_of b labels → length labels ≡ count_of b
+pub passed_long : (b labels : List ℕ) {n : ℕ} → Ok n ≡ labelled_of b labels → length labels ≡ count_of b
 passed_long b labels e = by_cases (ℕ_discrete (length labels) (count_of b)) (λ h. h)
     (λ h. let q = e ∙ labelled_long b labels h in let z : ◌≡◌ {A = ℕ} 0 1 = cc in absurd (omega arith))
 
 -- THE TEXT by the test: 58, 54, and the table
-abbrev TextGives : (x : Option Expr) (out : List ℕ) → Extracted → List ℕ → Type 0
+abbrev TextGives : (x : Option Expr) (out : List ℕ) → Result ℕ Refusal → List ℕ → Type 0
 TextGives x out a t = (text_written x (length out) ≡ a) × (text_left x out ≡ t)
 
 text_too_short : (e : Expr) (out : List ℕ) → length out < 4 * size e
-    → TextGives (some e) out (Refused (place.OutputLength (4 * size e))) out
+    → TextGives (some e) out (Err (refusal.OutputLength (4 * size e))) out
 text_too_short e out h = rw (lt-ltb (length out) (4 * size e) h) (refl, refl)
 
-text_fits : (e : Expr) (out : List ℕ) → 4 * size e ≤ length out → TextGives (some e) out (Length (4 * size e)) (bytes_with (table_of e) out)
+text_fits : (e : Expr) (out : List ℕ) → 4 * size e ≤ length out → TextGives (some e) out (Ok (4 * size e)) (bytes_with (table_of e) out)
 text_fits e out h = rw (le-ltb (length out) (4 * size e) h) (refl, refl)
 
 module _ (b labels out : List ℕ) where
   -- the stages before it
-  refused_chart : {p : Place} → check_of b ≡ stage.Refused p → ExtractionGives b labels out (Refused p) out
+  refused_chart : {p : Refusal} → check_of b ≡ Err p → ExtractionGives b labels out (Err p) out
   unfolding extracted_of extracted_left
   refused_chart e = rw e (refl, refl)
 
-  refused_labels : {p : Place} → check_of b ≡ stage.Passed → labelled_of b labels ≡ labelled.Refused p
-      → ExtractionGives b labels out (Refused p) out
+  refused_labels : {p : Refusal} → check_of b ≡ Ok tt → labelled_of b labels ≡ Err p
+      → ExtractionGives b labels out (Err p) out
   unfolding extracted_of extracted_left
   refused_labels e f = rw (e, f) (refl, refl)
 
-  passed_both : {n : ℕ} {x : Extracted} {t : List ℕ} → check_of b ≡ stage.Passed → labelled_of b labels ≡ labelled.Passed n
+  passed_both : {n : ℕ} {x : Result ℕ Refusal} {t : List ℕ} → check_of b ≡ Ok tt → labelled_of b labels ≡ Ok n
       → TextGives (start_text b labels) out x t → ExtractionGives b labels out x t
   unfolding extracted_of extracted_left
   passed_both e f g = rw (e, f) g
 
   -- as the contracts of the code have it
-  pub chart_told : {p : Place} → stage.Refused p ≡ check_of b
-      → (Refused p ≡ extracted_of b labels (length out)) × (out ≡ extracted_left b labels out)
+  pub chart_told : {p : Refusal} → Err p ≡ check_of b
+      → (Err p ≡ extracted_of b labels (length out)) × (out ≡ extracted_left b labels out)
   chart_told e = let (x, y) = refused_chart (sym e) in (sym x, sym y)
 
-  pub labels_told : {p : Place} → check_of b ≡ stage.Passed → labelled.Refused p ≡ labelled_of b labels
-      → (Refused p ≡ extracted_of b labels (length out)) × (out ≡ extracted_left b labels out)
+  pub labels_told : {p : Refusal} → check_of b ≡ Ok tt → Err p ≡ labelled_of b labels
+      → (Err p ≡ extracted_of b labels (length out)) × (out ≡ extracted_left b labels out)
   labels_told e f = let (x, y) = refused_labels e (sym f) in (sym x, sym y)
 
-  pub text_told : {n : ℕ} {x : Extracted} {t : List ℕ} → check_of b ≡ stage.Passed → labelled.Passed n ≡ labelled_of b labels
+  pub text_told : {n : ℕ} {x : Result ℕ Refusal} {t : List ℕ} → check_of b ≡ Ok tt → Ok n ≡ labelled_of b labels
       → (x ≡ text_written (start_text b labels) (length out)) × (t ≡ text_left (start_text b labels) out)
       → (x ≡ extracted_of b labels (length out)) × (t ≡ extracted_left b labels out)
   text_told e f (g, h) = let (x, y) = passed_both e (sym f) (refl, refl) in (g ∙ sym x, h ∙ sym y)
@@ -95,54 +90,53 @@ module _ (b labels out : List ℕ) where
 nodes_post : {nd : ℕ → Node} {e : Expr} {r : ℕ} → NodesOf nd 0 (some e) r → (k : ℕ) × PostOrder nd 0 e k
 nodes_post (nodes {r = r} p) = (r, p)
 
-pub start_wrote : (b labels : List ℕ) {s t : List ℕ} {start r : ℕ} → start ≡ start_of b → Wrote (Text (drawn_of b labels) start 0) 0 127 s t r
-    → Wrote (Text (drawn_of b labels) (start_of b) 0) 0 127 s t r
-start_wrote b labels {s} {t} {r = r} e = subst (λ (v : ℕ). Wrote (Text (drawn_of b labels) v 0) 0 127 s t r) e
+-- the first n bytes of t, written to the beginning of out
+pub copied : (n : ℕ) (t out : List ℕ) {part : List ℕ} → n ≤ length t → part ≡ take n t → part ++ drop n out ≡ bytes_with (take n t) out
+copied n t out l e = rw (e, length-take-le n t l) refl
 
-pub few_nodes : {P : Expr → Type 0} {s t : List ℕ} {r : ℕ} → Wrote P 0 127 s t r → r ≢ 128 → r ≤ 127
-few_nodes W n = (has_written (omega arith) W n).3
-
-module _ (b labels out : List ℕ) {s t : List ℕ} {r : ℕ} (W : Wrote (Text (drawn_of b labels) (start_of b) 0) 0 127 s t r) where
-  pub none_told : r ≡ 128 → (TooManyNodes ≡ text_written (start_text b labels) (length out)) × (out ≡ text_left (start_text b labels) out)
+module _ (b labels out : List ℕ) {s t : List ℕ} where
+  pub none_told : Wrote (StartText b labels) 0 127 s t None
+      → (Err TooManyNodes ≡ text_written (start_text b labels) (length out)) × (out ≡ text_left (start_text b labels) out)
   unfolding start_text
-  none_told e =
-      rw (fitting_not (drawn_of b labels) 127 (start_of b) 0 (λ g x. omega (arith, has_not (omega arith) W e g x))) (refl, refl)
+  none_told W = rw (fitting_not (drawn_of b labels) 127 (start_of b) 0 (λ g x. omega (arith, W.said g x))) (refl, refl)
 
-  text_is : r ≢ 128 → (e : Expr) × (start_text b labels ≡ some e) × (r ≡ size e) × NodesOf (node t) 0 (some e) r
-  unfolding start_text
-  text_is n =
-      let (e, x, p, l) = has_written (omega arith) W n in
-      let z = nodes_end (some e) p in
-      (e, (fitting_iff (drawn_of b labels) 127 (start_of b) 0 e).1 (x, omega arith), omega arith, p)
+  module _ {r : ℕ} (W : Wrote (StartText b labels) 0 127 s t (Some r)) where
+    text_is : (e : Expr) × (start_text b labels ≡ some e) × (r ≡ size e) × NodesOf (node t) 0 (some e) r
+    unfolding start_text
+    text_is =
+        let (e, x, p, l) = W.said in
+        let z = nodes_end (some e) p in
+        (e, (fitting_iff (drawn_of b labels) 127 (start_of b) 0 e).1 (x, omega arith), omega arith, p)
 
-  pub short_told : r ≢ 128 → length out < 4 * r
-      → (Refused (place.OutputLength (4 * r)) ≡ text_written (start_text b labels) (length out)) × (out ≡ text_left (start_text b labels) out)
-  short_told n h =
-      let (e, q, z, p) = text_is n in
-      let (x, y) = text_too_short e out (rw z at h) in
-      rw q (ap (λ (k : ℕ). Refused (place.OutputLength (4 * k))) z ∙ sym x, sym y)
+    pub short_told : length out < 4 * r
+        → (Err (refusal.OutputLength (4 * r)) ≡ text_written (start_text b labels) (length out))
+        × (out ≡ text_left (start_text b labels) out)
+    short_told h =
+        let (e, q, z, p) = text_is in
+        let (x, y) = text_too_short e out (rw z at h) in
+        rw q (ap (λ (k : ℕ). Err (refusal.OutputLength (4 * k))) z ∙ sym x, sym y)
 
-  pub table_told : {u : List ℕ} → length t ≡ 508 → r ≢ 128 → 4 * r ≤ length out → u ≡ bytes_with (take (4 * r) t) out
-      → (Length (4 * r) ≡ text_written (start_text b labels) (length out)) × (u ≡ text_left (start_text b labels) out)
-  table_told {u} long n h f =
-      let (e, q, z, p) = text_is n in
-      let (x, y) = text_fits e out (rw z at h) in
-      let g : take (4 * size e) t ≡ table_of e = post_bytes t e (omega (arith, few_nodes W n)) (nodes_post p).1 in
-      let i = ap (λ (k : ℕ). bytes_with (take (4 * k) t) out) z ∙ ap (λ (v : List ℕ). bytes_with v out) g in
-      rw q (ap (λ (k : ℕ). Length (4 * k)) z ∙ sym x, f ∙ i ∙ sym y)
+    pub table_told : {u : List ℕ} → length t ≡ 508 → 4 * r ≤ length out → u ≡ bytes_with (take (4 * r) t) out
+        → (Ok (4 * r) ≡ text_written (start_text b labels) (length out)) × (u ≡ text_left (start_text b labels) out)
+    table_told {u} long h f =
+        let (e, q, z, p) = text_is in
+        let (x, y) = text_fits e out (rw z at h) in
+        let g : take (4 * size e) t ≡ table_of e = post_bytes t e (omega (arith, W.said.3)) (nodes_post p).1 in
+        let i = ap (λ (k : ℕ). bytes_with (take (4 * k) t) out) z ∙ ap (λ (v : List ℕ). bytes_with v out) g in
+        rw q (ap (λ (k : ℕ). Ok (4 * k)) z ∙ sym x, f ∙ i ∙ sym y)
 
 -- EACH ANSWER, both ways
 module _ (b labels out : List ℕ) (B : Bytes labels) where
   -- where the labelling passes
   module _ (P : DrawnPasses b labels) where
-    passed_number : (n : ℕ) × (labelled_of b labels ≡ labelled.Passed n)
+    passed_number : (n : ℕ) × (labelled_of b labels ≡ Ok n)
     passed_number = (labelled_iff_witness b labels (passes b P.chart) B).1 (P.long, P.reaches, P.witness)
 
-    gives : {x : Extracted} {t : List ℕ} → TextGives (start_text b labels) out x t → ExtractionGives b labels out x t
+    gives : {x : Result ℕ Refusal} {t : List ℕ} → TextGives (start_text b labels) out x t → ExtractionGives b labels out x t
     gives = passed_both b labels out (passes b P.chart) passed_number.1
 
     module _ {e : Expr} (t : StartText b labels e) where
-      gives_58 : 127 < size e → ExtractionGives b labels out TooManyNodes out
+      gives_58 : 127 < size e → ExtractionGives b labels out (Err TooManyNodes) out
       unfolding start_text
       gives_58 h = gives (rw ((fitting_none (drawn_of b labels) 127 (start_of b) 0 t).1 h) (refl, refl))
 
@@ -150,14 +144,14 @@ module _ (b labels out : List ℕ) (B : Bytes labels) where
       unfolding start_text
       fits h = (fitting_iff (drawn_of b labels) 127 (start_of b) 0 e).1 (t, h)
 
-      gives_54 : size e ≤ 127 → length out < 4 * size e → ExtractionGives b labels out (Refused (place.OutputLength (4 * size e))) out
+      gives_54 : size e ≤ 127 → length out < 4 * size e → ExtractionGives b labels out (Err (refusal.OutputLength (4 * size e))) out
       gives_54 h l = gives (rw (fits h) (text_too_short e out l))
 
       gives_table : {s : List ℕ} → size e ≤ 127 → 4 * size e ≤ length out → IsTable e s
-          → ExtractionGives b labels out (Length (4 * size e)) (bytes_with s out)
+          → ExtractionGives b labels out (Ok (4 * size e)) (bytes_with s out)
       gives_table h l T = rw (one_table T) (gives (rw (fits h) (text_fits e out l)))
 
-  answer_gives : {x : Extracted} {t : List ℕ} → ExtractionAnswer b labels out x t → ExtractionGives b labels out x t
+  answer_gives : {x : Result ℕ Refusal} {t : List ℕ} → ExtractionAnswer b labels out x t → ExtractionGives b labels out x t
   answer_gives (other_chart R) = refused_chart b labels out ((chart_refused b _).1 R)
   answer_gives (other_labels W A) = refused_labels b labels out (passes b W) ((labelled_says b labels (passes b W) B _).1 A)
   answer_gives (too_many P t h) = gives_58 P t h
@@ -165,32 +159,32 @@ module _ (b labels out : List ℕ) (B : Bytes labels) where
   answer_gives (written P t h l T) = gives_table P t h l T
 
   -- some answer is meant
-  some_text : DrawnPasses b labels → (x : Extracted) × (t : List ℕ) × ExtractionAnswer b labels out x t
+  some_text : DrawnPasses b labels → (x : Result ℕ Refusal) × (t : List ℕ) × ExtractionAnswer b labels out x t
   some_text P =
       let (e, t) = start_text_lem b labels P in
       by_cases (dec_lt 127 (size e))
-      (λ h. (TooManyNodes, out, too_many P t h))
+      (λ h. ((Err TooManyNodes), out, too_many P t h))
       (λ h. by_cases (dec_lt (length out) (4 * size e))
-      (λ l. (Refused (place.OutputLength (4 * size e)), out, too_short P t (omega arith) l))
-      (λ l. (Length (4 * size e), bytes_with (table_of e) out, written P t (omega arith) (omega arith) (text_table b labels P.chart e t))))
+      (λ l. (Err (refusal.OutputLength (4 * size e)), out, too_short P t (omega arith) l))
+      (λ l. (Ok (4 * size e), bytes_with (table_of e) out, written P t (omega arith) (omega arith) (text_table b labels P.chart e t))))
 
-  some_labels : (c : check_of b ≡ stage.Passed) (a : Labelled) → labelled_of b labels ≡ a
-      → (x : Extracted) × (t : List ℕ) × ExtractionAnswer b labels out x t
-  some_labels c (labelled.Passed n) e =
+  some_labels : (c : check_of b ≡ Ok tt) (a : Result ℕ Refusal) → labelled_of b labels ≡ a
+      → (x : Result ℕ Refusal) × (t : List ℕ) × ExtractionAnswer b labels out x t
+  some_labels c (Ok n) e =
       let (l, r, w) = (labelled_iff_witness b labels c B).0 (n, e) in
       some_text (record { chart = well_formed b c; long = l; reaches = r; witness = w })
-  some_labels c (labelled.Refused p) e =
-      (Refused p, out, other_labels (well_formed b c) ((labelled_says b labels c B (labelled.Refused p)).0 e))
+  some_labels c (Err p) e =
+      (Err p, out, other_labels (well_formed b c) ((labelled_says b labels c B (Err p)).0 e))
 
-  some_answer : (x : Extracted) × (t : List ℕ) × ExtractionAnswer b labels out x t
+  some_answer : (x : Result ℕ Refusal) × (t : List ℕ) × ExtractionAnswer b labels out x t
   some_answer = go (check_of b) refl
     where
-      go : (a : Stage) → check_of b ≡ a → (x : Extracted) × (t : List ℕ) × ExtractionAnswer b labels out x t
-      go stage.Passed c = some_labels c (labelled_of b labels) refl
-      go (stage.Refused p) c = (Refused p, out, other_chart ((chart_refused b p).0 c))
+      go : (a : Result Unit Refusal) → check_of b ≡ a → (x : Result ℕ Refusal) × (t : List ℕ) × ExtractionAnswer b labels out x t
+      go (Ok _) c = some_labels c (labelled_of b labels) refl
+      go (Err p) c = (Err p, out, other_chart ((chart_refused b p).0 c))
 
   -- THE CALL answers x and leaves t exactly where document 02 says so
-  pub extraction_says : (x : Extracted) (t : List ℕ) → ExtractionGives b labels out x t ↔ ExtractionAnswer b labels out x t
+  pub extraction_says : (x : Result ℕ Refusal) (t : List ℕ) → ExtractionGives b labels out x t ↔ ExtractionAnswer b labels out x t
   extraction_says x t = (
     (λ (p, q). let (y, u, A) = some_answer in let (f, g) = answer_gives A in rw (sym f ∙ p, sym g ∙ q) at A),
     answer_gives,

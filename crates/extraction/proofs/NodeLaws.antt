@@ -1,12 +1,12 @@
 -- A node is put in the table: it is there, those before it are kept, and an operator's node joins what stands before it.
 use Prim.Native.Nat.{ℕ, suc, ◌+◌, ◌-◌, ◌*◌, ◌≤◌, ◌<◌}
-use mathlib.Core.Path.{◌≡◌, refl, sym, ◌∙◌, subst}
+use mathlib.Core.Path.{◌≡◌, refl, sym, ap, ◌∙◌, subst}
 use mathlib.Core.Logic.{◌≢◌}
-use mathlib.Core.List.{List}
+use mathlib.Core.List.{List, [], ◌∷◌, ◌++◌, append_assoc}
 use mathlib.Core.Option.{Option, none, some}
 use native.Mathlib.Omega.{arith}
-use lib.ListN.{length, get_or, set, length-set}
-use lib.Seq.{get_or-set_same, get_or-set_other}
+use lib.ListN.{length, get_or, set, take, drop, length-append, length-drop, get_or-append}
+use lib.Seq.{sets-eq, get_or-take, get_or-append-add, length-take-le}
 use borrow.Author.Tests.{lt-ltb}
 use Rattle.theory.specs.Expressions.{Expr, deadlock, act, sum, product}
 use Rattle.theory.specs.Nodes.{Op, op_sum, op_product, op_star, Node, leaf, bin, grow}
@@ -39,69 +39,57 @@ kept_all = record { long = refl; same = λ j h. refl }
 pub kept_both : {m n : ℕ} {s t u : List ℕ} → m ≤ n → KeptBelow m s t → KeptBelow n t u → KeptBelow m s u
 kept_both l K L = record { long = L.long ∙ K.long; same = λ j h. L.same j (omega arith) ∙ K.same j h }
 
--- A NODE IS PUT
+-- A NODE IS PUT: four bytes take the place of four
 abbrev four_set : List ℕ → ℕ → ℕ → ℕ → ℕ → ℕ → List ℕ
 four_set s p a b c d = set (set (set (set s p a) (p + 1) b) (p + 2) c) (p + 3) d
 
-module _ (s : List ℕ) (p a b c d : ℕ) where
+module _ (s : List ℕ) (p a b c d : ℕ) (room : p + 4 ≤ length s) where
+  four_is : four_set s p a b c d ≡ take p s ++ a ∷ b ∷ c ∷ d ∷ drop (p + 4) s
+  four_is =
+      let second : p + 1 ≡ suc p = omega arith in
+      let third : p + 2 ≡ suc (suc p) = omega arith in
+      let last : p + 3 ≡ suc (suc (suc p)) = omega arith in
+      rw (second, third, last)
+      (sets-eq (a ∷ b ∷ c ∷ d ∷ []) s p room ∙ append_assoc (take p s) (a ∷ b ∷ c ∷ d ∷ []) (drop (p + 4) s))
+
+  before : length (take p s) ≡ p
+  before = length-take-le p s (omega arith)
+
   four_long : length (four_set s p a b c d) ≡ length s
   four_long =
-      length-set (set (set (set s p a) (p + 1) b) (p + 2) c) (p + 3) d
-      ∙ length-set (set (set s p a) (p + 1) b) (p + 2) c
-      ∙ length-set (set s p a) (p + 1) b
-      ∙ length-set s p a
+      rw (four_is, length-append (take p s) (a ∷ b ∷ c ∷ d ∷ drop (p + 4) s)) (omega (arith, before, length-drop (p + 4) s))
 
   four_other : (i : ℕ) → i < p → get_or (four_set s p a b c d) i 0 ≡ get_or s i 0
   four_other i h =
-      get_or-set_other (set (set (set s p a) (p + 1) b) (p + 2) c) (p + 3) i d 0 (λ e. omega arith)
-      ∙ get_or-set_other (set (set s p a) (p + 1) b) (p + 2) i c 0 (λ e. omega arith)
-      ∙ get_or-set_other (set s p a) (p + 1) i b 0 (λ e. omega arith)
-      ∙ get_or-set_other s p i a 0 (λ e. omega arith)
+      rw four_is (get_or-append (take p s) (a ∷ b ∷ c ∷ d ∷ drop (p + 4) s) 0 i (omega (arith, before)) ∙ get_or-take p s i 0 h)
 
-  module _ (room : p + 3 < length s) where
-    four_first : get_or (four_set s p a b c d) p 0 ≡ a
-    four_first =
-        get_or-set_other (set (set (set s p a) (p + 1) b) (p + 2) c) (p + 3) p d 0 (λ e. omega arith)
-        ∙ get_or-set_other (set (set s p a) (p + 1) b) (p + 2) p c 0 (λ e. omega arith)
-        ∙ get_or-set_other (set s p a) (p + 1) p b 0 (λ e. omega arith)
-        ∙ get_or-set_same s p a 0 (omega arith)
-
-    four_second : get_or (four_set s p a b c d) (p + 1) 0 ≡ b
-    four_second =
-        get_or-set_other (set (set (set s p a) (p + 1) b) (p + 2) c) (p + 3) (p + 1) d 0 (λ e. omega arith)
-        ∙ get_or-set_other (set (set s p a) (p + 1) b) (p + 2) (p + 1) c 0 (λ e. omega arith)
-        ∙ get_or-set_same (set s p a) (p + 1) b 0 (omega (arith, length-set s p a))
-
-    four_third : get_or (four_set s p a b c d) (p + 2) 0 ≡ c
-    four_third =
-        get_or-set_other (set (set (set s p a) (p + 1) b) (p + 2) c) (p + 3) (p + 2) d 0 (λ e. omega arith)
-        ∙ get_or-set_same (set (set s p a) (p + 1) b) (p + 2) c 0 (omega (arith, length-set (set s p a) (p + 1) b, length-set s p a))
-
-    four_last : get_or (four_set s p a b c d) (p + 3) 0 ≡ d
-    four_last =
-        get_or-set_same (set (set (set s p a) (p + 1) b) (p + 2) c) (p + 3) d 0
-        (omega (arith, length-set (set (set s p a) (p + 1) b) (p + 2) c, length-set (set s p a) (p + 1) b, length-set s p a))
+  four_there : (k : ℕ) → get_or (four_set s p a b c d) (p + k) 0 ≡ get_or (a ∷ b ∷ c ∷ d ∷ drop (p + 4) s) k 0
+  four_there k =
+      ap (λ (n : ℕ). get_or (four_set s p a b c d) (n + k) 0) (sym before)
+      ∙ rw four_is (get_or-append-add (take p s) (a ∷ b ∷ c ∷ d ∷ drop (p + 4) s) k 0)
 
 pub put_four : (s : List ℕ) (at kind action left right : ℕ) → length s ≡ 508 → at < 127
     → Put at (parse at kind action left right) s (four_set s (4 * at) kind action left right)
 unfolding node
-put_four s at kind action left right l h = record {
-  kept = record {
-    long = four_long s (4 * at) kind action left right;
-    same = λ j g. rw (
-      four_other s (4 * at) kind action left right (4 * j) (omega arith),
-      four_other s (4 * at) kind action left right (4 * j + 1) (omega arith),
-      four_other s (4 * at) kind action left right (4 * j + 2) (omega arith),
-      four_other s (4 * at) kind action left right (4 * j + 3) (omega arith),
-    );
-  };
-  is = rw (
-    four_first s (4 * at) kind action left right (omega arith),
-    four_second s (4 * at) kind action left right (omega arith),
-    four_third s (4 * at) kind action left right (omega arith),
-    four_last s (4 * at) kind action left right (omega arith),
-  );
-}
+put_four s at kind action left right l h =
+    let p : ℕ = 4 * at in
+    let t : List ℕ = four_set s p kind action left right in
+    let room : p + 4 ≤ length s = omega arith in
+    let other = four_other s p kind action left right room in
+    let there = four_there s p kind action left right room in
+    let first : get_or t p 0 ≡ kind = ap (λ (n : ℕ). get_or t n 0) (omega arith) ∙ there 0 in
+    record {
+      kept = record {
+        long = four_long s p kind action left right room;
+        same = λ j g. rw (
+          other (4 * j) (omega arith),
+          other (4 * j + 1) (omega arith),
+          other (4 * j + 2) (omega arith),
+          other (4 * j + 3) (omega arith),
+        );
+      };
+      is = rw (first, there 1, there 2, there 3);
+    }
 
 -- WHAT THE NODE IS
 is_leaf : (k a : ℕ) → 0 < a → parse k 1 a 0 0 ≡ leaf a

@@ -9,7 +9,7 @@ use Rattle.theory.specs.Expressions.{Expr}
 use Rattle.theory.specs.PostOrders.{size, root_from, Acting}
 use Rattle.theory.proofs.Checks.{passed_iff_witness, passed_same}
 use Rattle.theory.proofs.Texts.{has_text, text_acting}
-use Rattle.report.specs.declared.Stage.TheVariants.{Passed}
+use Rattle.std.specs.Prelude.{Ok}
 use Rattle.chart.specs.Bodies.{start_of, WellFormed}
 use Rattle.chart.specs.Systems.{drawn_of}
 use Rattle.chart.proofs.Relations.{steps_formed, drawn_steps, drawn_formed}
@@ -29,7 +29,7 @@ module _ (b labels : List ℕ) where
     pub text_positive : Acting Positive e
     text_positive = text_acting (drawn_of b labels) Positive (λ i h. (W.each i h).action_low) t
 
-    pub text_passes : size e ≤ 127 → check_of (table_of e) ≡ Passed
+    pub text_passes : size e ≤ 127 → check_of (table_of e) ≡ Ok tt
     text_passes = table_passes e text_positive
 
     -- its table has it in post-order

@@ -1,42 +1,18 @@
-use mathlib.Core.Path.{refl}
+use Rattle.std.proofs.Common.{◌≡◌, length}
 use native.Mathlib.Omega.{arith}
-use Rattle.chart.proofs.Checks.{well_formed}
-use Rattle.extraction.proofs.ExtractionCalls.{start_wrote, none_told, few_nodes, short_told, table_told}
+use Rattle.extraction.proofs.ExtractionCalls.{none_told, short_told, copied, table_told}
 use Rattle.extraction.proofs.write_labelled.Goals as goal
 
-pub byte-start-requires : goal.byte-start-requires
-byte-start-requires c = let p = c.requires in omega (arith, (well_formed _ p.passed).header.long)
-
-pub write_text-n-requires : goal.write_text-n-requires
-write_text-n-requires c =
-    let p = c.requires in (
-      p,
-      rw c.byte-start.ensures.0 (well_formed _ p.passed).header.start_high,
-      record { long = refl; few = omega arith; within = omega arith },
-    )
-
-pub returns-then-n-eq-NO_ROOM : goal.returns-then-n-eq-NO_ROOM
-returns-then-n-eq-NO_ROOM c =
-    let a = c.args in
-    let W = start_wrote a.chart.now a.labels.now c.byte-start.ensures.0 c.write_text-n.ensures in
-    none_told _ _ _ W c.if-n-eq-NO_ROOM.true
-
-pub overflow_mul-needed : goal.overflow_mul-needed
-overflow_mul-needed c = record { fits = omega (arith, few_nodes c.write_text-n.ensures c.if-n-eq-NO_ROOM.false) }
+pub returns-in_default : goal.returns-in_default
+returns-in_default c = none_told _ _ _ (rw (c.start-start.ensures.0, c.in_default.is) at c.write_text.ensures.wrote)
 
 pub returns-then-out-needed : goal.returns-then-out-needed
 returns-then-out-needed c =
-    let a = c.args in
-    let W = start_wrote a.chart.now a.labels.now c.byte-start.ensures.0 c.write_text-n.ensures in
-    short_told _ _ _ W c.if-n-eq-NO_ROOM.false c.if-out-needed.true
-
-pub copy-requires : goal.copy-requires
-copy-requires c =
-    let W = c.write_text-n.ensures in
-    (W.kept.long, omega (arith, few_nodes W c.if-n-eq-NO_ROOM.false), omega (arith, c.if-out-needed.false))
+    short_told _ _ _ (rw (c.start-start.ensures.0, c.in-Some.is) at c.write_text.ensures.wrote) c.if-out-needed.true
 
 pub returns : goal.returns
 returns c =
-    let a = c.args in
-    let W = start_wrote a.chart.now a.labels.now c.byte-start.ensures.0 c.write_text-n.ensures in
-    table_told _ _ _ W W.kept.long c.if-n-eq-NO_ROOM.false (omega (arith, c.if-out-needed.false)) c.copy.ensures
+    let W = rw (c.start-start.ensures.0, c.in-Some.is) at c.write_text.ensures.wrote in
+    let many : length c.write_text.new.self.nodes.bytes ≡ 508 = W.kept.long in
+    table_told _ _ _ W many (omega (arith, c.if-out-needed.false))
+    (copied _ c.write_text.new.self.nodes.bytes _ (omega (arith, W.said.3)) c.copy_from_slice.ensures.after)
