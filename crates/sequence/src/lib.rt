@@ -3,8 +3,7 @@
 #![tactic(auto)]
 
 ghost use Rattle.std.specs.Prelude.{◌≡◌, length};
-ghost use Rattle.report.specs.Numbers.{verdict_numbers, written_numbers, removed_numbers, together_numbers};
-ghost use Rattle.report.specs.Numbers.{followed_numbers, way_numbers, extracted_numbers};
+ghost use Rattle.report.specs.Numbers.{verdict_numbers, length_numbers, done_numbers, followed_numbers};
 ghost use Rattle.verdict.specs.Verdicts.{verdict_of};
 ghost use Rattle.expression.specs.Body.{written_of, buffer_of};
 ghost use Rattle.extraction.specs.Extractions.{extracted_of, extracted_left};
@@ -14,38 +13,35 @@ ghost use Rattle.theory.specs.Events.{restart, event};
 ghost use Rattle.follower.specs.Calls.{lent_on};
 ghost use Rattle.follower.specs.Ways.{way_of, way_left};
 
-use report::{
-    Numbers, extracted_numbers, followed_numbers, removed_numbers, together_numbers,
-    verdict_numbers, way_numbers, written_numbers,
-};
+use report::Numbers;
 
 // The verdict on a yard file: 0 with V, T and the number of loops, or the refusal.
 #[unsafe(no_mangle)]
 pub extern "C" fn seq_check(file: &[u8]) -> Numbers
     ensures { result ≡ verdict_numbers (verdict_of file.now) }
 {
-    verdict_numbers(verdict::check(file))
+    verdict::check(file).into()
 }
 
 // Writes the expression's chart into the lent bytes, those past it being kept: 0 with its length
 // in bytes, or the refusal, which changes none of them.
 #[unsafe(no_mangle)]
 pub extern "C" fn seq_write_chart(nodes: &[u8], out: &mut [u8]) -> Numbers
-    ensures { (result ≡ written_numbers (written_of nodes.now (length out.old)))
+    ensures { (result ≡ length_numbers (written_of nodes.now (length out.old)))
         × (out.new ≡ buffer_of nodes.now out.old) }
 {
-    written_numbers(expression::write_chart(nodes, out))
+    expression::write_chart(nodes, out).into()
 }
 
 // Writes the expression of a chart with these labels into the lent bytes, those past it being kept: 0 with
 // its length in bytes, or the refusal, which changes none of them.
 #[unsafe(no_mangle)]
 pub extern "C" fn seq_write_expression(chart: &[u8], labels: &[u8], out: &mut [u8]) -> Numbers
-    ensures { (result ≡ extracted_numbers
+    ensures { (result ≡ length_numbers
         (extracted_of chart.now labels.now (length out.old)))
         × (out.new ≡ extracted_left chart.now labels.now out.old) }
 {
-    extracted_numbers(extraction::write_expression(chart, labels, out))
+    extraction::write_expression(chart, labels, out).into()
 }
 
 // Takes out the loop (vertex, level) of a chart with these labels, where the transitions whose byte
@@ -58,12 +54,12 @@ pub extern "C" fn seq_remove(
     level: usize,
     standing: &mut [u8],
 ) -> Numbers
-    ensures { (result ≡ removed_numbers
+    ensures { (result ≡ done_numbers
         (removal_of chart.now labels.now vertex level standing.old))
         × (standing.new
         ≡ left_of chart.now labels.now vertex level standing.old) }
 {
-    removed_numbers(elimination::remove(chart, labels, vertex, level, standing))
+    elimination::remove(chart, labels, vertex, level, standing).into()
 }
 
 // Takes out several loops together, two bytes each: 0 where the bytes of all their entries have become
@@ -75,12 +71,12 @@ pub extern "C" fn seq_remove_together(
     loops: &[u8],
     standing: &mut [u8],
 ) -> Numbers
-    ensures { (result ≡ together_numbers
+    ensures { (result ≡ done_numbers
         (together_of chart.now labels.now loops.now standing.old))
         × (standing.new
         ≡ left_together chart.now labels.now loops.now standing.old) }
 {
-    together_numbers(elimination::remove_together(chart, labels, loops, standing))
+    elimination::remove_together(chart, labels, loops, standing).into()
 }
 
 // A restart over a chart, of a state of seventeen bytes: 0 with 1 for taken, whether the end is in the
@@ -90,7 +86,7 @@ pub extern "C" fn seq_restart(chart: &[u8], state: &mut [u8]) -> Numbers
     ensures { (result ≡ followed_numbers (lent_on chart.now state.old restart).0)
         × (state.new ≡ (lent_on chart.now state.old restart).1) }
 {
-    followed_numbers(follower::restart_lent(chart, state))
+    follower::restart_lent(chart, state).into()
 }
 
 // An event likewise: 1 for taken, 0 for not possible, which spoils the state, 2 for spoilt.
@@ -99,15 +95,15 @@ pub extern "C" fn seq_event(chart: &[u8], state: &mut [u8], action: u8) -> Numbe
     ensures { (result ≡ followed_numbers (lent_on chart.now state.old (event action)).0)
         × (state.new ≡ (lent_on chart.now state.old (event action)).1) }
 {
-    followed_numbers(follower::event_lent(chart, state, action))
+    follower::event_lent(chart, state, action).into()
 }
 
 // Writes the shortest list of events after which the end is in the set into the lent bytes, those past
 // it being kept: 0 with its length, or the refusal, which changes none of them.
 #[unsafe(no_mangle)]
 pub extern "C" fn seq_shortest_way(chart: &[u8], state: &[u8], out: &mut [u8]) -> Numbers
-    ensures { (result ≡ way_numbers (way_of chart.now state.now (length out.old)))
+    ensures { (result ≡ length_numbers (way_of chart.now state.now (length out.old)))
         × (out.new ≡ way_left chart.now state.now out.old) }
 {
-    way_numbers(follower::shortest_way(chart, state, out))
+    follower::shortest_way(chart, state, out).into()
 }

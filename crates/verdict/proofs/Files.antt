@@ -10,69 +10,69 @@ use lib.Dec.{eqb, ltb}
 use lib.ListN.{length, take, drop}
 use borrow.Author.Count.{below_more}
 use borrow.Author.Tests.{lt-ltb, le-ltb, eq-eqb, ne_eqb, ltb-true, ltb-false, eqb-true, eqb-false}
-use Rattle.report.specs.declared.Place.{Place}
-use Rattle.report.specs.declared.Place.TheVariants.{File, Record, RecordKind, FileOffset}
-use Rattle.report.specs.declared.Stage.{Stage}
-use Rattle.report.specs.declared.Stage.TheVariants.{Passed, Refused}
+use Rattle.std.specs.Prelude.{Result, Ok, Err}
+use Rattle.report.specs.Stages.{after}
+use Rattle.report.specs.declared.Refusal.{Refusal}
+use Rattle.report.specs.declared.Refusal.TheVariants.{File, Record, RecordKind, FileOffset}
 use Rattle.bits.specs.Packed.{two_at}
-use Rattle.verdict.specs.Files.{and_then, end_at, record_stage, records_from, records_of, offset_of, body_at, RecordFits, Whole, RecordsBefore, RecordsChecked, too_long, cut_header, other_kind, cut_body, bytes_after, whole}
+use Rattle.verdict.specs.Files.{end_at, record_stage, records_from, records_of, offset_of, body_at, RecordFits, Whole, RecordsBefore, RecordsChecked, too_long, cut_header, other_kind, cut_body, bytes_after, whole}
 
-refused_not : {p : Place} → Refused p ≢ Passed
+refused_not : {p : Refusal} → ◌≡◌ {A = Result Unit Refusal} (Err p) (Ok tt) → ⊥
 refused_not e = let z : ◌≡◌ {A = ℕ} 0 1 = cc in omega arith
 
 -- ONE RECORD
 module _ (f : List ℕ) (kind at : ℕ) where
-  pub record_cut : length f < at + 4 → Refused (Record kind) ≡ record_stage f kind at
+  pub record_cut : length f < at + 4 → Err (Record kind) ≡ record_stage f kind at
   unfolding record_stage
   record_cut h = rw (lt-ltb (length f) (at + 4) h)
 
   module _ (h : at + 4 ≤ length f) where
-    pub record_other : (found : ℕ) → found ≡ two_at f (at + 2) → found ≢ kind → Refused (RecordKind kind found) ≡ record_stage f kind at
+    pub record_other : (found : ℕ) → found ≡ two_at f (at + 2) → found ≢ kind → Err (RecordKind kind found) ≡ record_stage f kind at
     unfolding record_stage
     record_other found q e = rw (le-ltb (length f) (at + 4) h, ← q, ne_eqb found kind e)
 
-    pub record_short : kind ≡ two_at f (at + 2) → length f < end_at f at → Refused (Record kind) ≡ record_stage f kind at
+    pub record_short : kind ≡ two_at f (at + 2) → length f < end_at f at → Err (Record kind) ≡ record_stage f kind at
     unfolding record_stage
     record_short e g = rw (le-ltb (length f) (at + 4) h, ← e, eq-eqb kind kind refl, lt-ltb (length f) (end_at f at) g)
 
-    pub record_passes : kind ≡ two_at f (at + 2) → end_at f at ≤ length f → Passed ≡ record_stage f kind at
+    pub record_passes : kind ≡ two_at f (at + 2) → end_at f at ≤ length f → (Ok tt) ≡ record_stage f kind at
     unfolding record_stage
     record_passes e g = rw (le-ltb (length f) (at + 4) h, ← e, eq-eqb kind kind refl, le-ltb (length f) (end_at f at) g)
 
   -- it passes exactly when it fits
-  pub record_fits : (record_stage f kind at ≡ Passed) ↔ RecordFits f kind at
+  pub record_fits : (record_stage f kind at ≡ Ok tt) ↔ RecordFits f kind at
   unfolding record_stage
   record_fits = (λ e. go (ltb (length f) (at + 4)) (eqb (two_at f (at + 2)) kind) (ltb (length f) (end_at f at)) refl refl refl e, λ s. sym (record_passes s.header (sym s.is_kind) s.body))
     where
       go : (a b c : Bool) → ltb (length f) (at + 4) ≡ a → eqb (two_at f (at + 2)) kind ≡ b → ltb (length f) (end_at f at) ≡ c
-          → cond a (Refused (Record kind)) (cond b (cond c (Refused (Record kind)) Passed) (Refused (RecordKind kind (two_at f (at + 2))))) ≡ Passed → RecordFits f kind at
+          → cond a (Err (Record kind)) (cond b (cond c (Err (Record kind)) (Ok tt)) (Err (RecordKind kind (two_at f (at + 2))))) ≡ Ok (tt {0}) → RecordFits f kind at
       go true b c p q r e = absurd (refused_not e)
       go false false c p q r e = absurd (refused_not e)
       go false true true p q r e = absurd (refused_not e)
       go false true false p q r e = record { header = ltb-false _ _ p; is_kind = eqb-true _ _ q; body = ltb-false _ _ r }
 
-pub fits_at_lem : (f : List ℕ) (kind at : ℕ) (s : Stage) → s ≡ record_stage f kind at → s ≡ Passed → RecordFits f kind at
+pub fits_at_lem : (f : List ℕ) (kind at : ℕ) (s : Result Unit Refusal) → s ≡ record_stage f kind at → s ≡ Ok tt → RecordFits f kind at
 fits_at_lem f kind at s e p = (record_fits f kind at).0 (sym e ∙ p)
 
 -- THE RECORDS FROM AN OFFSET ON, as the loop goes
 module _ (f : List ℕ) (kind at : ℕ) where
-  pub from_step : kind < 5 → Passed ≡ record_stage f kind at → records_from f kind at (5 - kind) ≡ records_from f (kind + 1) (end_at f at) (5 - (kind + 1))
+  pub from_step : kind < 5 → (Ok tt) ≡ record_stage f kind at → records_from f kind at (5 - kind) ≡ records_from f (kind + 1) (end_at f at) (5 - (kind + 1))
   unfolding records_from
   from_step h e = let r : 5 - kind ≡ suc (5 - (kind + 1)) = omega arith in rw (r, add-one kind, ← e)
 
-  pub from_stop : (p : Place) → kind < 5 → Refused p ≡ record_stage f kind at → records_from f kind at (5 - kind) ≡ Refused p
+  pub from_stop : (p : Refusal) → kind < 5 → Err p ≡ record_stage f kind at → records_from f kind at (5 - kind) ≡ Err p
   unfolding records_from
   from_stop p h e = let r : 5 - kind ≡ suc (5 - (kind + 1)) = omega arith in rw (r, ← e)
 
-  pub from_after : 5 ≤ kind → at < length f → records_from f kind at (5 - kind) ≡ Refused (FileOffset at)
+  pub from_after : 5 ≤ kind → at < length f → records_from f kind at (5 - kind) ≡ Err (FileOffset at)
   unfolding records_from
   from_after h g = let r : 5 - kind ≡ 0 = omega arith in rw (r, lt-ltb at (length f) g)
 
-  pub from_end : 5 ≤ kind → length f ≤ at → records_from f kind at (5 - kind) ≡ Passed
+  pub from_end : 5 ≤ kind → length f ≤ at → records_from f kind at (5 - kind) ≡ Ok tt
   unfolding records_from
   from_end h g = let r : 5 - kind ≡ 0 = omega arith in rw (r, le-ltb at (length f) g)
 
-pub records_long : (f : List ℕ) → 43536 < length f → Refused File ≡ records_of f
+pub records_long : (f : List ℕ) → 43536 < length f → Err File ≡ records_of f
 unfolding records_of
 records_long f h = rw (lt-ltb 43536 (length f) h)
 
@@ -86,11 +86,11 @@ module _ (f : List ℕ) where
   one_more k (s, b) g = (s, λ j h. below_more (λ (j : ℕ). RecordFits f (suc j) (offset_of f j)) k b g j (omega arith))
 
   -- at the end: 4, or nothing after
-  end_checked : RecordsBefore f 4 → RecordsChecked f (cond (ltb (offset_of f 4) (length f)) (Refused (FileOffset (offset_of f 4))) Passed)
+  end_checked : RecordsBefore f 4 → RecordsChecked f (cond (ltb (offset_of f 4) (length f)) (Err (FileOffset (offset_of f 4))) (Ok tt))
   unfolding offset_of
   end_checked b = go (ltb (offset_of f 4) (length f)) refl
     where
-      go : (t : Bool) → ltb (offset_of f 4) (length f) ≡ t → RecordsChecked f (cond t (Refused (FileOffset (offset_of f 4))) Passed)
+      go : (t : Bool) → ltb (offset_of f 4) (length f) ≡ t → RecordsChecked f (cond t (Err (FileOffset (offset_of f 4))) (Ok tt))
       go true q = bytes_after b (ltb-true _ _ q)
       go false q =
           let l : RecordFits f 4 (offset_of f 3) = b.1 3 (omega arith) in
@@ -104,7 +104,7 @@ module _ (f : List ℕ) where
     where
       go : (x y z : Bool) → ltb (length f) (offset_of f k + 4) ≡ x → eqb (two_at f (offset_of f k + 2)) (suc k) ≡ y → ltb (length f) (end_at f (offset_of f k)) ≡ z
           → (RecordFits f (suc k) (offset_of f k) → RecordsChecked f (records_from f (suc (suc k)) (offset_of f (suc k)) n))
-          → RecordsChecked f (and_then (cond x (Refused (Record (suc k))) (cond y (cond z (Refused (Record (suc k))) Passed) (Refused (RecordKind (suc k) (two_at f (offset_of f k + 2)))))) (records_from f (suc (suc k)) (offset_of f (suc k)) n))
+          → RecordsChecked f (after {A = Unit} {B = Unit} (cond x (Err (Record (suc k))) (cond y (cond z (Err (Record (suc k))) (Ok tt)) (Err (RecordKind (suc k) (two_at f (offset_of f k + 2)))))) (records_from f (suc (suc k)) (offset_of f (suc k)) n))
       go true y z p q r next = cut_header k (omega arith) b (ltb-true _ _ p)
       go false false z p q r next = other_kind k (omega arith) b (ltb-false _ _ p) (eqb-false _ _ q)
       go false true true p q r next = cut_body k (omega arith) b (ltb-false _ _ p) (eqb-true _ _ q) (ltb-true _ _ r)
@@ -115,11 +115,11 @@ module _ (f : List ℕ) where
   unfolding records_of offset_of
   records_checked = go (ltb 43536 (length f)) refl
     where
-      go : (t : Bool) → ltb 43536 (length f) ≡ t → RecordsChecked f (cond t (Refused File) (records_from f 1 0 4))
+      go : (t : Bool) → ltb 43536 (length f) ≡ t → RecordsChecked f (cond t (Err File) (records_from f 1 0 4))
       go true q = too_long (ltb-true _ _ q)
       go false q = from_checked 4 0 (omega arith) (ltb-false _ _ q, λ j h. absurd (omega arith))
 
-  passed_whole : {s : Stage} → RecordsChecked f s → s ≡ Passed → Whole f
+  passed_whole : {s : Result Unit Refusal} → RecordsChecked f s → s ≡ Ok tt → Whole f
   passed_whole (too_long h) e = absurd (refused_not e)
   passed_whole (cut_header k h b c) e = absurd (refused_not e)
   passed_whole (other_kind k h b c d) e = absurd (refused_not e)
@@ -132,15 +132,15 @@ module _ (f : List ℕ) where
   unfolding records_from offset_of
   come_to zero n e b = let z : n ≡ 4 = omega arith in rw z (records_from_lem f b.0)
   come_to (suc k) n e b =
-      let g : Passed ≡ record_stage f (suc k) (offset_of f k) = sym ((record_fits f (suc k) (offset_of f k)).1 (b.1 k (omega arith))) in
-      ap (λ (s : Stage). and_then s (records_from f (suc (suc k)) (offset_of f (suc k)) n)) g ∙ come_to k (suc n) (omega arith) (b.0, λ j h. b.1 j (omega arith))
+      let g : (Ok tt) ≡ record_stage f (suc k) (offset_of f k) = sym ((record_fits f (suc k) (offset_of f k)).1 (b.1 k (omega arith))) in
+      ap (λ (s : Result Unit Refusal). after s (records_from f (suc (suc k)) (offset_of f (suc k)) n)) g ∙ come_to k (suc n) (omega arith) (b.0, λ j h. b.1 j (omega arith))
 
-  stops_at : (k : ℕ) (p : Place) → k < 4 → RecordsBefore f k → Refused p ≡ record_stage f (suc k) (offset_of f k) → Refused p ≡ records_of f
+  stops_at : (k : ℕ) (p : Refusal) → k < 4 → RecordsBefore f k → Err p ≡ record_stage f (suc k) (offset_of f k) → Err p ≡ records_of f
   unfolding records_from
-  stops_at k p h b e = ap (λ (s : Stage). and_then s (records_from f (suc (suc k)) (end_at f (offset_of f k)) (3 - k))) e ∙ come_to k (suc (3 - k)) (omega arith) b
+  stops_at k p h b e = ap (λ (s : Result Unit Refusal). after s (records_from f (suc (suc k)) (end_at f (offset_of f k)) (3 - k))) e ∙ come_to k (suc (3 - k)) (omega arith) b
 
   -- the cases give no other
-  pub checked_records : {s : Stage} → RecordsChecked f s → s ≡ records_of f
+  pub checked_records : {s : Result Unit Refusal} → RecordsChecked f s → s ≡ records_of f
   unfolding records_from
   checked_records (too_long h) = records_long f h
   checked_records (cut_header k h b c) = stops_at k _ h b (record_cut f (suc k) (offset_of f k) c)
@@ -150,10 +150,10 @@ module _ (f : List ℕ) where
   checked_records (whole w) = rw (← come_to 4 0 (omega arith) (w.short, w.each), le-ltb (offset_of f 4) (length f) (omega (arith, w.nothing_after)))
 
   -- 1 TO 4 PASS exactly where the file is four records and nothing after
-  pub records_iff : (records_of f ≡ Passed) ↔ Whole f
+  pub records_iff : (records_of f ≡ Ok tt) ↔ Whole f
   records_iff = (passed_whole records_checked, λ w. sym (checked_records (whole w)))
 
-  pub records_whole : records_of f ≡ Passed → Whole f
+  pub records_whole : records_of f ≡ Ok tt → Whole f
   records_whole = records_iff.0
 
   pub offset_none : 0 ≡ offset_of f 0

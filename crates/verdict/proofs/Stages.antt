@@ -5,9 +5,8 @@ use Prim.Native.Nat.{ℕ, ◌+◌, ◌/◌, ◌≤◌}
 use native.Mathlib.Omega.{arith}
 use lib.ListN.{length}
 use Rattle.bits.specs.Bits.{Bytes}
-use Rattle.report.specs.declared.Labelled.{Labelled}
-use Rattle.report.specs.declared.Stage.{Stage}
-use Rattle.report.specs.declared.Stage.TheVariants as stage
+use Rattle.std.specs.Prelude.{Result, Ok}
+use Rattle.report.specs.declared.Refusal.{Refusal}
 use Rattle.chart.specs.Bodies.{vertices_of, start_of}
 use Rattle.chart.specs.Checks as chart
 use Rattle.chart.specs.Numbered.{Lists, Numbered}
@@ -23,7 +22,7 @@ use Rattle.bisimulation.specs.Answers.{ListedChart, NumberedChart}
 use Rattle.verdict.specs.Verdicts.{nodes_in, chart_in, labels_in, relation_in, ComeToPairs}
 
 -- the vertices of the expression's chart: one for each node, and the end
-pub nodes_few : (s : List ℕ) → expression.check_of s ≡ stage.Passed → length s / 4 + 1 ≤ 128
+pub nodes_few : (s : List ℕ) → expression.check_of s ≡ Ok tt → length s / 4 + 1 ≤ 128
 unfolding count
 nodes_few s e = let n = (passed→well_formed s e).sized.few in omega (arith, n)
 
@@ -35,7 +34,7 @@ pub nodes_start : (s : List ℕ) → start_of (body_of s) ≡ length s / 4
 unfolding count
 nodes_start s = body_start s
 
-pub chart_long : (b : List ℕ) → chart.check_of b ≡ stage.Passed → 4 ≤ length b
+pub chart_long : (b : List ℕ) → chart.check_of b ≡ Ok tt → 4 ≤ length b
 chart_long b e = (well_formed b e).header.long
 
 -- WHAT 43 TO 45 ARE GIVEN: the expression's chart by its steps, in any order or in order
@@ -49,14 +48,14 @@ module _ {nodes b relation keys words : List ℕ} {vertices m : ℕ} (B : Bytes 
       record { passes = body_passes nodes B C.both.0; size = sym C.is_number; numbered = N; fits = C.fits; starts = C.starts }
 
 -- WHAT A STAGE ANSWERS of bytes that are bodies of the file
-pub stage_in : (check : List ℕ → Stage) {x y : List ℕ} {s t : Stage} → x ≡ y → s ≡ check x → s ≡ t → check y ≡ t
+pub stage_in : (check : List ℕ → Result Unit Refusal) {x y : List ℕ} {s t : Result Unit Refusal} → x ≡ y → s ≡ check x → s ≡ t → check y ≡ t
 stage_in check q e h = ap check (sym q) ∙ sym e ∙ h
 
 module _ (f : List ℕ) {b : List ℕ} (j : b ≡ chart_in f) where
-  pub labelling_in : {l : List ℕ} {s t : Labelled} → l ≡ labels_in f → s ≡ labelled_of b l → s ≡ t
+  pub labelling_in : {l : List ℕ} {s t : Result ℕ Refusal} → l ≡ labels_in f → s ≡ labelled_of b l → s ≡ t
       → labelled_of (chart_in f) (labels_in f) ≡ t
   labelling_in k e h = rw (← j, ← k, ← e) h
 
-  pub relation_in_lem : {n r : List ℕ} {s t : Stage} → n ≡ nodes_in f → r ≡ relation_in f → s ≡ relation_of (body_of n) b r → s ≡ t
+  pub relation_in_lem : {n r : List ℕ} {s t : Result Unit Refusal} → n ≡ nodes_in f → r ≡ relation_in f → s ≡ relation_of (body_of n) b r → s ≡ t
       → relation_of (body_of (nodes_in f)) (chart_in f) (relation_in f) ≡ t
   relation_in_lem i k e h = rw (← i, ← j, ← k, ← e) h

@@ -1,14 +1,9 @@
 -- The yard file: four records of kinds 1 to 4, nothing after; and the refusals 1 to 4, as a test and by cases.
-use Rattle.std.specs.Prelude.{cond, List, [], ◌∷◌, ◌++◌, ◌≡◌, ◌≢◌, ℕ, zero, suc, ◌+◌, ◌/◌, ◌%◌, ◌<◌, ◌≤◌, eqb, ltb, length, take, drop}
+use Rattle.std.specs.Prelude.{cond, List, [], ◌∷◌, ◌++◌, ◌≡◌, ◌≢◌, ℕ, zero, suc, ◌+◌, ◌/◌, ◌%◌, ◌<◌, ◌≤◌, eqb, ltb, length, take, drop, Result, Ok, Err}
 use Rattle.bits.specs.Packed.{two_at}
-use Rattle.report.specs.declared.Place.TheVariants.{File, Record, RecordKind, FileOffset}
-use Rattle.report.specs.declared.Stage.{Stage}
-use Rattle.report.specs.declared.Stage.TheVariants.{Passed, Refused}
-
--- one stage after another: a stage that refuses stops the check there
-abbrev pub and_then : Stage → Stage → Stage
-and_then Passed next = next
-and_then (Refused place) next = Refused place
+use Rattle.report.specs.Stages.{after}
+use Rattle.report.specs.declared.Refusal.{Refusal}
+use Rattle.report.specs.declared.Refusal.TheVariants.{File, Record, RecordKind, FileOffset}
 
 -- THE MEANING. A number in two bytes, the low one first; a record: the length of its body, its kind, its body
 abbrev pub two_bytes : ℕ → List ℕ
@@ -29,20 +24,20 @@ abbrev pub kind_at : List ℕ → ℕ → ℕ
 kind_at f at = two_at f (at + 2)
 
 -- 2 and 3 of the record of this kind at an offset: header, kind, body
-unfoldable pub record_stage : List ℕ → ℕ → ℕ → Stage
+unfoldable pub record_stage : List ℕ → ℕ → ℕ → Result Unit Refusal
 record_stage f kind at =
-    cond (ltb (length f) (at + 4)) (Refused (Record kind))
+    cond (ltb (length f) (at + 4)) (Err (Record kind))
     (cond (eqb (kind_at f at) kind)
-    (cond (ltb (length f) (end_at f at)) (Refused (Record kind)) Passed)
-    (Refused (RecordKind kind (kind_at f at))))
+    (cond (ltb (length f) (end_at f at)) (Err (Record kind)) (Ok tt))
+    (Err (RecordKind kind (kind_at f at))))
 
 -- the n records from an offset on, then 4
-unfoldable pub records_from : List ℕ → ℕ → ℕ → ℕ → Stage
-records_from f kind at zero = cond (ltb at (length f)) (Refused (FileOffset at)) Passed
-records_from f kind at (suc n) = and_then (record_stage f kind at) (records_from f (suc kind) (end_at f at) n)
+unfoldable pub records_from : List ℕ → ℕ → ℕ → ℕ → Result Unit Refusal
+records_from f kind at zero = cond (ltb at (length f)) (Err (FileOffset at)) (Ok tt)
+records_from f kind at (suc n) = after (record_stage f kind at) (records_from f (suc kind) (end_at f at) n)
 
-unfoldable pub records_of : List ℕ → Stage
-records_of f = cond (ltb 43536 (length f)) (Refused File) (records_from f 1 0 4)
+unfoldable pub records_of : List ℕ → Result Unit Refusal
+records_of f = cond (ltb 43536 (length f)) (Err File) (records_from f 1 0 4)
 
 -- where record k begins, from 0, and its body
 unfoldable pub offset_of : List ℕ → ℕ → ℕ
@@ -73,13 +68,13 @@ abbrev pub RecordsBefore : List ℕ → ℕ → Type 0
 RecordsBefore f k = (length f ≤ 43536) × ((j : ℕ) → j < k → RecordFits f (suc j) (offset_of f j))
 
 -- THE REFUSALS 1 TO 4, by cases: where a record is refused, those before it fit
-pub data RecordsChecked (f : List ℕ) : Stage → Type 0 where
-  too_long : 43536 < length f → RecordsChecked f (Refused File)
+pub data RecordsChecked (f : List ℕ) : Result Unit Refusal → Type 0 where
+  too_long : 43536 < length f → RecordsChecked f (Err File)
   cut_header : (k : ℕ) → k < 4 → RecordsBefore f k → length f < offset_of f k + 4
-      → RecordsChecked f (Refused (Record (suc k)))
+      → RecordsChecked f (Err (Record (suc k)))
   other_kind : (k : ℕ) → k < 4 → RecordsBefore f k → HasHeader f (offset_of f k) → kind_at f (offset_of f k) ≢ suc k
-      → RecordsChecked f (Refused (RecordKind (suc k) (kind_at f (offset_of f k))))
+      → RecordsChecked f (Err (RecordKind (suc k) (kind_at f (offset_of f k))))
   cut_body : (k : ℕ) → k < 4 → RecordsBefore f k → HasHeader f (offset_of f k) → kind_at f (offset_of f k) ≡ suc k
-      → length f < end_at f (offset_of f k) → RecordsChecked f (Refused (Record (suc k)))
-  bytes_after : RecordsBefore f 4 → offset_of f 4 < length f → RecordsChecked f (Refused (FileOffset (offset_of f 4)))
-  whole : Whole f → RecordsChecked f Passed
+      → length f < end_at f (offset_of f k) → RecordsChecked f (Err (Record (suc k)))
+  bytes_after : RecordsBefore f 4 → offset_of f 4 < length f → RecordsChecked f (Err (FileOffset (offset_of f 4)))
+  whole : Whole f → RecordsChecked f (Ok tt)

@@ -1,9 +1,7 @@
 use mathlib.Core.Path.{ap, ◌∙◌}
-use Rattle.report.specs.Numbers.{together_numbers}
+use Rattle.report.specs.Numbers.{done_numbers}
+use Rattle.report.proofs.NumberLaws.{as_answer}
 use Rattle.sequence.proofs.seq_remove_together.Goals as goal
 
 pub returns : goal.returns
-returns c = (
-  c.together_numbers.ensures ∙ ap together_numbers c.remove_together.ensures.0,
-  c.remove_together.ensures.1,
-)
+returns c = (as_answer _ _ c.into.ensures ∙ ap done_numbers c.remove_together.ensures.0, c.remove_together.ensures.1)

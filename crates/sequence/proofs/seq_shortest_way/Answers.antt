@@ -1,9 +1,7 @@
 use mathlib.Core.Path.{ap, ◌∙◌}
-use Rattle.report.specs.Numbers.{way_numbers}
+use Rattle.report.specs.Numbers.{length_numbers}
+use Rattle.report.proofs.NumberLaws.{as_answer}
 use Rattle.sequence.proofs.seq_shortest_way.Goals as goal
 
 pub returns : goal.returns
-returns c = (
-  c.way_numbers.ensures ∙ ap way_numbers c.shortest_way.ensures.0,
-  c.shortest_way.ensures.1,
-)
+returns c = (as_answer _ _ c.into.ensures ∙ ap length_numbers c.shortest_way.ensures.0, c.shortest_way.ensures.1)
