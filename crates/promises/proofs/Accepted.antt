@@ -6,9 +6,8 @@ use Prim.Native.Nat.{ℕ, ◌+◌, ◌*◌}
 use lib.ListN.{length, drop}
 use lib.Seq.{get_or-drop}
 use Rattle.theory.specs.Systems.{Bisimulation}
-use Rattle.report.specs.declared.Labelled.TheVariants as labelled
-use Rattle.report.specs.declared.Stage.TheVariants as stage
-use Rattle.report.specs.declared.Verdict.TheVariants.{Accepted}
+use Rattle.std.specs.Prelude.{Ok}
+use Rattle.report.specs.Numbers.{accepted_with}
 use Rattle.bits.specs.Bits.{Bytes}
 use Rattle.bits.proofs.SetBytes.{taken_bytes}
 use Rattle.chart.specs.Bodies as chart
@@ -43,7 +42,7 @@ unfolding body_at
 part_bytes f k bytes = taken_bytes (two_at f (offset_of f k)) (drop (offset_of f k + 4) f) (λ i. rw get_or-drop (bytes (offset_of f k + 4 + i)))
 
 module _ (f : List ℕ) (bytes : Bytes f) where
-  pub accepted_holds : (v t l : ℕ) → verdict_of f ≡ Accepted v t l → Holds f v t l
+  pub accepted_holds : (v t l : ℕ) → verdict_of f ≡ Ok (accepted_with v t l) → Holds f v t l
   accepted_holds v t l e =
       let (r, n, c, p, q, v', t') = (accepted_iff f v t l).0 e in
       let w : Whole f = records_whole f r in
@@ -71,7 +70,7 @@ module _ (f : List ℕ) (bytes : Bytes f) where
         loops = labelled_loops (chart_in f) (labels_in f) c (part_bytes f 2 bytes) l p;
       }
 
-  pub holds_accepted : (v t l : ℕ) → Holds f v t l → verdict_of f ≡ Accepted v t l
+  pub holds_accepted : (v t l : ℕ) → Holds f v t l → verdict_of f ≡ Ok (accepted_with v t l)
   holds_accepted v t l h = (accepted_iff f v t l).1 (
     (records_iff f).1 whole,
     rw is_s (nodes'.well_formed→passed h.s h.yard.expression),
@@ -97,18 +96,18 @@ module _ (f : List ℕ) (bytes : Bytes f) where
       is_b : chart_in f ≡ h.b
       is_b = laid.2
 
-      chart_passes : checks.check_of (chart_in f) ≡ stage.Passed
+      chart_passes : checks.check_of (chart_in f) ≡ Ok tt
       chart_passes = rw is_b (checks'.passes h.b h.yard.chart_body)
 
-      labels_pass : labelled_of (chart_in f) (labels_in f) ≡ labelled.Passed l
+      labels_pass : labelled_of (chart_in f) (labels_in f) ≡ Ok l
       labels_pass =
           let long = ap length laid.3 ∙ h.yard.labelled ∙ ap chart.count_of (sym is_b) in
           let (n, p) = (labelled_iff_witness (chart_in f) (labels_in f) chart_passes (part_bytes f 2 bytes)).1 (long, rw (is_b, laid.3) h.yard.connected, rw (is_b, laid.3) h.yard.witness) in
           let (xs, all, len) = h.loops in
           let m : length xs ≡ loops_of (chart_in f) (labels_in f) = loops_number (chart_in f) (labels_in f) chart_passes (part_bytes f 2 bytes) xs (rw (is_b, laid.3) all) in
-          p ∙ ap labelled.Passed (labelled_number (chart_in f) (labels_in f) chart_passes (part_bytes f 2 bytes) n p ∙ sym m ∙ len)
+          p ∙ ap Ok (labelled_number (chart_in f) (labels_in f) chart_passes (part_bytes f 2 bytes) n p ∙ sym m ∙ len)
 
-      relation_passes : relation_of (body_of (nodes_in f)) (chart_in f) (relation_in f) ≡ stage.Passed
+      relation_passes : relation_of (body_of (nodes_in f)) (chart_in f) (relation_in f) ≡ Ok tt
       relation_passes = rw (is_s, is_b, laid.4)
           ((relation_iff_bisimulation (body_of h.s) h.b h.relation).1 (
             h.yard.rows ∙ ap (λ (x : ℕ). 16 * x) (sym (body_vertices h.s)),
@@ -117,5 +116,5 @@ module _ (f : List ℕ) (bytes : Bytes f) where
           ))
 
   -- ACCEPTED exactly when the file holds a yard with these counts
-  pub accepted_iff_holds : (v t l : ℕ) → (verdict_of f ≡ Accepted v t l) ↔ Holds f v t l
+  pub accepted_iff_holds : (v t l : ℕ) → (verdict_of f ≡ Ok (accepted_with v t l)) ↔ Holds f v t l
   accepted_iff_holds v t l = (accepted_holds v t l, holds_accepted v t l)

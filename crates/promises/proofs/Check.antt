@@ -8,15 +8,13 @@ use Prim.Native.Nat.{ℕ, suc, ◌<◌}
 use native.Mathlib.Decide.{ℕ_discrete}
 use native.Mathlib.Omega.{arith}
 use lib.ListN.{length}
-use Rattle.report.specs.Numbers.{four, place_numbers, verdict_numbers}
+use Rattle.report.specs.Numbers.{four, refusal_numbers, verdict_numbers}
 use Rattle.report.proofs.NumberLaws.{one_verdict}
-use Rattle.report.specs.declared.Labelled.{Labelled}
-use Rattle.report.specs.declared.Labelled.TheVariants as labelled
-use Rattle.report.specs.declared.Place.{Place}
-use Rattle.report.specs.declared.Place.TheVariants as place
-use Rattle.report.specs.declared.Stage.TheVariants as stage
-use Rattle.report.specs.declared.Verdict.{Verdict}
-use Rattle.report.specs.declared.Verdict.TheVariants.{Accepted, Refused}
+use Rattle.std.specs.Prelude.{Result, Ok, Err}
+use Rattle.report.specs.declared.Refusal.{Refusal}
+use Rattle.report.specs.declared.Refusal.TheVariants as refusal
+use Rattle.report.specs.declared.Accepted.{Accepted}
+use Rattle.report.specs.Numbers.{accepted_with}
 use Rattle.bits.specs.Bits.{Bytes}
 use Rattle.chart.specs.Checks as chart
 use Rattle.chart.proofs.Checks.{check_passed, check_20, check_21}
@@ -47,16 +45,16 @@ good_or false h = absurd (h refl)
 
 module _ (s : List ℕ) where
   -- a sentence of 10, 11 or 12 is the answer of the nodes' checks
-  pub check_10 : ¬ nodes.Sized s → nodes.check_of s ≡ stage.Refused (place.NodesLength (length s))
+  pub check_10 : ¬ nodes.Sized s → nodes.check_of s ≡ Err (refusal.NodesLength (length s))
   check_10 h = sym (checked_is (ill_sized h))
 
-  pub check_11 : {p : ℕ} → FirstMalformed s p → nodes.check_of s ≡ stage.Refused (place.Node p)
+  pub check_11 : {p : ℕ} → FirstMalformed s p → nodes.check_of s ≡ Err (refusal.Node p)
   check_11 {p} (z, l) = sym (checked_is (malformed_at p z l.holds.0 l.holds.1 good))
     where
       good : (k : ℕ) → k < p → nodes.is_good (nodes.node s k) ≡ true
       good k h = good_or _ (λ e. l.lowest k h (omega (arith, l.holds.0), e))
 
-  pub check_12 : {p : ℕ} → FirstNotUsedOnce s p → nodes.check_of s ≡ stage.Refused (place.NodeUses p (nodes.uses_of s p))
+  pub check_12 : {p : ℕ} → FirstNotUsedOnce s p → nodes.check_of s ≡ Err (refusal.NodeUses p (nodes.uses_of s p))
   check_12 {p} (z, g, l) = sym (checked_is (misused_at p z (λ k h. good_or _ (λ e. g k (h, e))) l.holds.0 l.holds.1 once))
     where
       once : (j : ℕ) → j < p → nodes.uses_of s j ≡ 1
@@ -77,10 +75,10 @@ module _ (s : List ℕ) where
   )
 
 -- what the stages of the check answer
-abbrev Refuses : List ℕ → Place → Type 0
-Refuses f p = verdict_numbers (verdict_of f) ≡ place_numbers p
+abbrev Refuses : List ℕ → Refusal → Type 0
+Refuses f p = verdict_numbers (verdict_of f) ≡ refusal_numbers p
 
-abbrev labels_outcome : List ℕ → Labelled
+abbrev labels_outcome : List ℕ → Result ℕ Refusal
 labels_outcome f = labelled_of (chart_in f) (labels_in f)
 
 -- THE CHECK
@@ -89,51 +87,51 @@ module _ (f : List ℕ) (bytes : Bytes f) where
   labels_bytes = part_bytes f 2 bytes
 
   -- the stages pass by their tests, and by what they mean
-  records_test : Whole f → records_of f ≡ stage.Passed
+  records_test : Whole f → records_of f ≡ Ok tt
   records_test = (records_iff f).1
 
-  nodes_test : NodesPass f → nodes.check_of (nodes_in f) ≡ stage.Passed
+  nodes_test : NodesPass f → nodes.check_of (nodes_in f) ≡ Ok tt
   nodes_test h = well_formed→passed (nodes_in f) h.nodes
 
-  nodes_pass : records_of f ≡ stage.Passed → nodes.check_of (nodes_in f) ≡ stage.Passed → NodesPass f
+  nodes_pass : records_of f ≡ Ok tt → nodes.check_of (nodes_in f) ≡ Ok tt → NodesPass f
   nodes_pass a b = record { records = (records_iff f).0 a; nodes = passed→well_formed (nodes_in f) b }
 
-  chart_test : ChartPasses f → chart.check_of (chart_in f) ≡ stage.Passed
+  chart_test : ChartPasses f → chart.check_of (chart_in f) ≡ Ok tt
   chart_test h = (check_passed (chart_in f)).1 h.chart
 
-  chart_passes : NodesPass f → chart.check_of (chart_in f) ≡ stage.Passed → ChartPasses f
+  chart_passes : NodesPass f → chart.check_of (chart_in f) ≡ Ok tt → ChartPasses f
   chart_passes h c = record { before = h; chart = (check_passed (chart_in f)).0 c }
 
-  labels_test : LabelsPass f → (l : ℕ) × (labels_outcome f ≡ labelled.Passed l)
+  labels_test : LabelsPass f → (l : ℕ) × (labels_outcome f ≡ Ok l)
   labels_test h =
       let c = chart_test h.before.before in
       (labelled_iff_witness (chart_in f) (labels_in f) c labels_bytes).1 (h.before.each, h.connected, h.witness)
 
-  labels_pass : {l : ℕ} → ChartPasses f → labels_outcome f ≡ labelled.Passed l → LabelsPass f
+  labels_pass : {l : ℕ} → ChartPasses f → labels_outcome f ≡ Ok l → LabelsPass f
   labels_pass {l} h e =
       let (a, c, w) = (labelled_iff_witness (chart_in f) (labels_in f) (chart_test h) labels_bytes).0 (l, e) in
       record { before = record { before = h; each = a }; connected = c; witness = w }
 
   -- FROM A SENTENCE TO THE ANSWER
-  refused : {p : Place} → Fails f p → Refuses f p
+  refused : {p : Refusal} → Fails f p → Refuses f p
   refused {p} h = ap verdict_numbers ((refused_iff f p).1 h)
 
-  by_records : {p : Place} → RecordsChecked f (stage.Refused p) → Refuses f p
+  by_records : {p : Refusal} → RecordsChecked f (Err p) → Refuses f p
   by_records c = refused (records_fail (sym (checked_records f c)))
 
-  by_nodes : {p : Place} → Whole f → nodes.check_of (nodes_in f) ≡ stage.Refused p → Refuses f p
+  by_nodes : {p : Refusal} → Whole f → nodes.check_of (nodes_in f) ≡ Err p → Refuses f p
   by_nodes w e = refused (nodes_fail (records_test w) e)
 
-  by_chart : {p : Place} → NodesPass f → chart.check_of (chart_in f) ≡ stage.Refused p → Refuses f p
+  by_chart : {p : Refusal} → NodesPass f → chart.check_of (chart_in f) ≡ Err p → Refuses f p
   by_chart h e = refused (chart_fails (records_test h.records) (nodes_test h) e)
 
-  by_labels : {p : Place} → ChartPasses f → labels_outcome f ≡ labelled.Refused p → Refuses f p
+  by_labels : {p : Refusal} → ChartPasses f → labels_outcome f ≡ Err p → Refuses f p
   by_labels h e = refused (labels_fail (records_test h.before.records) (nodes_test h.before) (chart_test h) e)
 
-  by_labelling : {p : Place} → ChartPasses f → LabellingAnswer (chart_in f) (labels_in f) (labelled.Refused p) → Refuses f p
+  by_labelling : {p : Refusal} → ChartPasses f → LabellingAnswer (chart_in f) (labels_in f) (Err p) → Refuses f p
   by_labelling h a = by_labels h ((labelled_says (chart_in f) (labels_in f) (chart_test h) labels_bytes _).1 a)
 
-  by_relation : {p : Place} → LabelsPass f → RelationAnswer (expression_in f) (chart_in f) (relation_in f) (stage.Refused p) → Refuses f p
+  by_relation : {p : Refusal} → LabelsPass f → RelationAnswer (expression_in f) (chart_in f) (relation_in f) (Err p) → Refuses f p
   by_relation h a =
       let c = h.before.before in
       let n = c.before in
@@ -165,22 +163,22 @@ module _ (f : List ℕ) (bytes : Bytes f) where
   sentence_answers (says_45 h g a l) = by_relation h.0 (relation.chart_alone h.1 g a l)
 
   -- FROM THE ANSWER TO ITS SENTENCE
-  records_say : {p : Place} → RecordsChecked f (stage.Refused p) → SentenceFor f (place_numbers p)
+  records_say : {p : Refusal} → RecordsChecked f (Err p) → SentenceFor f (refusal_numbers p)
   records_say (too_long h) = says_1 h
   records_say (cut_header k h b c) = says_2 h b (inl c)
   records_say (other_kind k h b c d) = says_3 h b (c, refl, d)
   records_say (cut_body k h b c d g) = says_2 h b (inr (c, d, g))
   records_say (bytes_after b h) = says_4 b h
 
-  nodes_say : {p : Place} → Whole f → NodesChecked (nodes_in f) (stage.Refused p) → SentenceFor f (place_numbers p)
+  nodes_say : {p : Refusal} → Whole f → NodesChecked (nodes_in f) (Err p) → SentenceFor f (refusal_numbers p)
   nodes_say w (ill_sized h) = says_10 w h
   nodes_say w (malformed_at p z h e low) = says_11 w (first_malformed (nodes_in f) z h e low)
   nodes_say w (misused_at p z g h e low) = says_12 w (first_misused (nodes_in f) z g h e low)
 
-  chart_say : {p : Place} → NodesPass f → chart.check_of (chart_in f) ≡ stage.Refused p → SentenceFor f (place_numbers p)
-  chart_say {p} h = refused_cases (chart_in f) (λ x. SentenceFor f (place_numbers x)) (says_20 h) (λ i. says_21 h) p
+  chart_say : {p : Refusal} → NodesPass f → chart.check_of (chart_in f) ≡ Err p → SentenceFor f (refusal_numbers p)
+  chart_say {p} h = refused_cases (chart_in f) (λ x. SentenceFor f (refusal_numbers x)) (says_20 h) (λ i. says_21 h) p
 
-  labels_say : {p : Place} → ChartPasses f → LabellingAnswer (chart_in f) (labels_in f) (labelled.Refused p) → SentenceFor f (place_numbers p)
+  labels_say : {p : Refusal} → ChartPasses f → LabellingAnswer (chart_in f) (labels_in f) (Err p) → SentenceFor f (refusal_numbers p)
   labels_say h (labelling.other_length g) = says_30 h g
   labels_say h (labelling.unreached_at g l) = says_31 (record { before = h; each = g }) l
   labels_say h (labelling.cycle_at g c l) = says_32 (record { before = h; each = g }) c l
@@ -188,7 +186,7 @@ module _ (f : List ℕ) (bytes : Bytes f) where
   labels_say h (labelling.end_in_body g i e) = says_34 (h, g) i e
   labels_say h (labelling.not_lower_at g i e l) = says_35 (h, g) i e l
 
-  relation_say : {p : Place} → LabelsPass f → RelationAnswer (expression_in f) (chart_in f) (relation_in f) (stage.Refused p) → SentenceFor f (place_numbers p)
+  relation_say : {p : Refusal} → LabelsPass f → RelationAnswer (expression_in f) (chart_in f) (relation_in f) (Err p) → SentenceFor f (refusal_numbers p)
   relation_say h (relation.other_length g) = says_40 h (rw body_vertices at g)
   relation_say h (relation.no_vertex w l) = says_41 h (rw body_vertices at w) l
   relation_say h (relation.starts_unrelated F g) = rw (body_start (nodes_in f)) (says_42 (h, F) (rw body_start at g))
@@ -196,7 +194,7 @@ module _ (f : List ℕ) (bytes : Bytes f) where
   relation_say h (relation.expression_alone c g l) = says_44 (h, c) g l
   relation_say h (relation.chart_alone c g a l) = says_45 (h, c) g a l
 
-  fails_say : {p : Place} → Fails f p → SentenceFor f (place_numbers p)
+  fails_say : {p : Refusal} → Fails f p → SentenceFor f (refusal_numbers p)
   fails_say (records_fail e) = records_say (subst (RecordsChecked f) e (records_checked f))
   fails_say (nodes_fail a e) = nodes_say ((records_iff f).0 a) (subst (NodesChecked (nodes_in f)) e (checked (nodes_in f)))
   fails_say (chart_fails a b e) = chart_say (nodes_pass a b) e
@@ -209,9 +207,9 @@ module _ (f : List ℕ) (bytes : Bytes f) where
   pub answer_says : SentenceFor f (verdict_numbers (verdict_of f))
   answer_says = go (verdict_of f) refl
     where
-      go : (x : Verdict) → verdict_of f ≡ x → SentenceFor f (verdict_numbers x)
-      go (Accepted v t l) e = says_0 ((accepted_iff_holds f bytes v t l).0 e)
-      go (Refused p) e = fails_say ((refused_iff f p).0 e)
+      go : (x : Result Accepted Refusal) → verdict_of f ≡ x → SentenceFor f (verdict_numbers x)
+      go (Ok a) e = says_0 ((accepted_iff_holds f bytes a.vertices a.transitions a.loops).0 e)
+      go (Err p) e = fails_say ((refused_iff f p).0 e)
 
   -- THE CHECK ANSWERS n p q r exactly where the sentence for n holds with these places
   pub check_numbers : (n p q r : ℕ) → (verdict_numbers (verdict_of f) ≡ four n p q r) ↔ Sentence f n p q r
@@ -224,6 +222,6 @@ module _ (f : List ℕ) (bytes : Bytes f) where
   -- n is 0 exactly for an accepted file
   pub check_zero : (v t l : ℕ) → (verdict_numbers (verdict_of f) ≡ four 0 v t l) ↔ Holds f v t l
   check_zero v t l = (
-    (λ e. (accepted_iff_holds f bytes v t l).0 (one_verdict (verdict_of f) (Accepted v t l) e)),
+    (λ e. (accepted_iff_holds f bytes v t l).0 (one_verdict (verdict_of f) (Ok (accepted_with v t l)) e)),
     (λ h. sentence_answers (says_0 h)),
   )

@@ -9,7 +9,7 @@ use Rattle.theory.specs.Nodes.{residual}
 use Rattle.theory.specs.Climbs.{LeadsBy}
 use Rattle.theory.proofs.ExpressionCharts.{residual_of_start}
 use Rattle.theory.proofs.Climbs.{chart_leads}
-use Rattle.report.specs.declared.Stage.TheVariants as stage
+use Rattle.std.specs.Prelude.{Ok}
 use Rattle.bits.specs.Bits.{Bytes}
 use Rattle.chart.specs.Checks as chart
 use Rattle.expression.specs.Table as nodes
@@ -22,7 +22,7 @@ use Rattle.witness.proofs.Labellings.{labelled_iff_witness}
 use Rattle.bisimulation.proofs.Relations.{relation_iff_bisimulation}
 use Rattle.promises.specs.Demand2.{HasTransition, ExactSteps, WritesTheChart, LabellingPasses, RelationPasses}
 
-module _ (s : List ℕ) (passed : nodes.check_of s ≡ stage.Passed) where
+module _ (s : List ℕ) (passed : nodes.check_of s ≡ Ok tt) where
   chart_of : IsChart s (chart_transitions s)
   chart_of = passed_chart s passed
 
@@ -63,7 +63,7 @@ pub writes_the_chart : (s lent : List ℕ) → WritesTheChart s lent
 writes_the_chart s lent n e = let (p, l, w, q) = length_says s lent n e in (body_of s, q, sym l, exact_steps s p)
 
 -- a labelling passes exactly when it is a layered loop witness of a connected chart
-pub labelling_passes : (b labels : List ℕ) → chart.check_of b ≡ stage.Passed → Bytes labels → LabellingPasses b labels
+pub labelling_passes : (b labels : List ℕ) → chart.check_of b ≡ Ok tt → Bytes labels → LabellingPasses b labels
 labelling_passes b labels passed bytes = labelled_iff_witness b labels passed bytes
 
 -- a relation passes exactly when it is a bisimulation

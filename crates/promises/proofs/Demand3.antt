@@ -27,12 +27,11 @@ use Rattle.theory.proofs.Orders.{order_plain, order_exists, no_endless}
 use Rattle.theory.proofs.Rules.{chart_rules}
 use Rattle.theory.proofs.Followers.{fresh_agree, one_answers}
 use Rattle.theory.proofs.Runs.{chart_answers, rules_answers}
-use Rattle.report.specs.declared.Followed.{Followed}
-use Rattle.report.specs.declared.Removed.{Removed}
-use Rattle.report.specs.declared.Removed.TheVariants.{Done}
-use Rattle.report.specs.Numbers.{flag, removed_numbers, followed_numbers}
-use Rattle.report.specs.declared.Stage.TheVariants as stage
-use Rattle.report.specs.declared.Verdict.TheVariants.{Accepted}
+use Rattle.std.specs.Prelude.{Result, Ok}
+use Rattle.report.specs.declared.Refusal.{Refusal}
+use Rattle.report.specs.Numbers.{accepted_with}
+use Rattle.report.specs.declared.Response.{Response}
+use Rattle.report.specs.Numbers.{flag, done_numbers, followed_numbers}
 use Rattle.bits.specs.Bits.{Bytes}
 use Rattle.chart.specs.Bodies as chart
 use Rattle.chart.specs.Bodies.{start_of, count_of}
@@ -87,7 +86,7 @@ branches_stand b labels {Y} each none = record {
     entry i h n = branch_at labels i (omega (arith, each)) ∙ rw (ne_eqb (get_or labels i 0) 0 n)
 
 -- THE ANSWERS of the calls have the numbers that are written out for the theory's
-plain_numbers_lem : (a : Answer) → removed_numbers (removed_as a) ≡ plain_numbers a
+plain_numbers_lem : (a : Answer) → done_numbers (removed_as a) ≡ plain_numbers a
 plain_numbers_lem done = refl
 plain_numbers_lem (refused_51 v l) = refl
 plain_numbers_lem (refused_52 v l r) = refl
@@ -103,8 +102,8 @@ all_numbers : {X Y K : Type 0} (f : Y → K) (g : X → Y) (h : X → K) → ((x
 all_numbers f g h same xs e = ap (map f) e ∙ map-map f g xs ∙ map_congr_left {l = xs} (λ x m. same x)
 
 -- A REMOVAL is done where the plain set's answer is, and leaves the same loops
-module _ {x : Removed} where
-  done_same : (a : Answer) → x ≡ removed_as a → (x ≡ Done) ↔ (a ≡ done)
+module _ {x : Result Unit Refusal} where
+  done_same : (a : Answer) → x ≡ removed_as a → (x ≡ Ok tt) ↔ (a ≡ done)
   done_same done e = ((λ z. refl), (λ z. e))
   done_same (refused_51 p q) e =
       ((λ z. let o : ◌≡◌ {A = ℕ} 0 1 = cc in absurd (omega arith)), (λ z. let o : ◌≡◌ {A = ℕ} 0 1 = cc in absurd (omega arith)))
@@ -145,7 +144,7 @@ module _ {b labels : List ℕ} (c : Passing b labels) where
   against calls = record {
     same = λ ys Y p.
         let (e, s) = calls_agree c (λ v l o. o) at_first p in
-        record { answers = all_numbers removed_numbers removed_as plain_numbers plain_numbers_lem ys e; stands = s };
+        record { answers = all_numbers done_numbers removed_as plain_numbers plain_numbers_lem ys e; stands = s };
     answered = plain_answers (formed c) (listed c) all_loops calls;
   }
 
@@ -172,12 +171,12 @@ gives {b} {cs} {xs} {spoilt} W one = record {
   lent_mark = λ s h. marked (lent s h);
 }
   where
-    told : {ys : List Followed} {g : Follower} → ByRule b cs ys g → map followed_numbers ys ≡ map rule_numbers xs
+    told : {ys : List (Result Response Refusal)} {g : Follower} → ByRule b cs ys g → map followed_numbers ys ≡ map rule_numbers xs
     told R =
         all_numbers followed_numbers followed_as rule_numbers rule_numbers_lem R.answers R.written
         ∙ ap (map rule_numbers) (one R.answers R.spoilt R.rule).0
 
-    marked : {ys : List Followed} {g : Follower} → ByRule b cs ys g → g.mark ≡ flag spoilt
+    marked : {ys : List (Result Response Refusal)} {g : Follower} → ByRule b cs ys g → g.mark ≡ flag spoilt
     marked R = R.marked ∙ ap flag (one R.answers R.spoilt R.rule).1
 
     by_value : ByRule b cs (run (call_by_value b) cs (called_on b no_state events.restart).follower)
@@ -193,7 +192,7 @@ gives {b} {cs} {xs} {spoilt} W one = record {
     lent s h = let (held, F) = fresh_held W s h in lent_follows W (lent_on b s events.restart).1 held F cs
 
 -- OF ANY ACCEPTED FILE
-module _ (f : List ℕ) (bytes : Bytes f) {v t l : ℕ} (accepted : verdict_of f ≡ Accepted v t l) where
+module _ (f : List ℕ) (bytes : Bytes f) {v t l : ℕ} (accepted : verdict_of f ≡ Ok (accepted_with v t l)) where
   pub passing : Passing (chart_in f) (labels_in f)
   passing =
       let (r, n, c, p, q, v', t') = (accepted_iff f v t l).0 accepted in
@@ -222,7 +221,7 @@ module _ (f : List ℕ) (bytes : Bytes f) {v t l : ℕ} (accepted : verdict_of f
   orders_run_through = runs_through passing
 
   -- THE TWO CHARTS AND THE RULES, two by two bisimilar
-  nodes_pass : nodes.check_of (nodes_in f) ≡ stage.Passed
+  nodes_pass : nodes.check_of (nodes_in f) ≡ Ok tt
   nodes_pass = let (r, n, c, p, q, v', t') = (accepted_iff f v t l).0 accepted in n
 
   charts_match : Bisimulation (system_of (expression_in f)) (system_of (chart_in f)) (Related (relation_in f))

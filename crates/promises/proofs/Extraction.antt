@@ -16,13 +16,12 @@ use Rattle.theory.specs.LabellingTests.{loop_outcome, failing_test, loops_outcom
 use Rattle.theory.proofs.PostOrders.{post_size}
 use Rattle.theory.proofs.TextTests.{one_text, fitting_iff}
 use Rattle.report.specs.declared.Numbers.{Numbers}
-use Rattle.report.specs.declared.Stage.TheVariants as stage
-use Rattle.report.specs.declared.Labelled.TheVariants as labelled
-use Rattle.report.specs.declared.Verdict.TheVariants.{Accepted}
-use Rattle.report.specs.declared.Extracted.{Extracted}
-use Rattle.report.specs.declared.Extracted.TheVariants.{Length, TooManyNodes}
-use Rattle.report.specs.Numbers.{four, extracted_numbers}
-use Rattle.report.proofs.NumberLaws.{one_extracted}
+use Rattle.std.specs.Prelude.{Result, Ok, Err}
+use Rattle.report.specs.declared.Refusal.{Refusal}
+use Rattle.report.specs.declared.Refusal.TheVariants.{TooManyNodes}
+use Rattle.report.specs.Numbers.{accepted_with}
+use Rattle.report.specs.Numbers.{four, length_numbers}
+use Rattle.report.proofs.NumberLaws.{one_length}
 use Rattle.bits.specs.Bits.{Bytes, bytes_with}
 use Rattle.chart.specs.Bodies.{vertices_of, count_of}
 use Rattle.chart.specs.Checks as chart
@@ -41,7 +40,7 @@ use Rattle.verdict.specs.Verdicts.{verdict_of}
 use Rattle.verdict.proofs.Files.{records_iff}
 use Rattle.verdict.proofs.Layouts.{layout_whole}
 use Rattle.verdict.proofs.Verdicts.{accepted_iff}
-use Rattle.extraction.specs.ExtractionAnswers.{DrawnPasses, StartText, IsTable, ExtractionAnswer, too_many, written}
+use Rattle.extraction.specs.ExtractionAnswers.{DrawnPasses, StartText, IsTable, ExtractionAnswer, other_chart, other_labels, too_many, written}
 use Rattle.extraction.proofs.StartTexts as texts
 use Rattle.extraction.proofs.ExtractionCalls.{extraction_says}
 use Rattle.promises.specs.Extraction.{ExtractionGives, ExtractionByNumbers, OfStartTexts, OfWritten, chart_g, labels_g, nodes_g, GivesG}
@@ -49,20 +48,22 @@ use Rattle.promises.proofs.Numbered.{by_numbers}
 use Rattle.promises.proofs.TextRelations.{some_relation}
 
 pub extraction_numbers : (b labels out : List ℕ) → Bytes labels → ExtractionByNumbers b labels out
-extraction_numbers b labels out B = by_numbers extracted_numbers (extraction_says b labels out B)
+extraction_numbers b labels out B = by_numbers length_numbers (extraction_says b labels out B)
 
 -- an answer that is meant has its numbers
-given : {b labels out t : List ℕ} {x : Extracted} {k : Numbers} → Bytes labels → ExtractionAnswer b labels out x t → extracted_numbers x ≡ k
+given : {b labels out t : List ℕ} {x : Result ℕ Refusal} {k : Numbers} → Bytes labels → ExtractionAnswer b labels out x t → length_numbers x ≡ k
     → ExtractionGives b labels out k t
 given {b} {labels} {out} {t} {x} {k} B A e = (extraction_numbers b labels out B k t).1 (record { answer = x; meant = A; numbered = e })
 
 -- and the numbers tell the answer
-meant : {b labels out t : List ℕ} (x : Extracted) → Bytes labels → ExtractionGives b labels out (extracted_numbers x) t
+meant : {b labels out t : List ℕ} (x : Result ℕ Refusal) → Bytes labels → ExtractionGives b labels out (length_numbers x) t
     → ExtractionAnswer b labels out x t
-meant {b} {labels} {out} {t} x B (p, q) = (extraction_says b labels out B x t).0 (one_extracted _ _ p, q)
+meant {b} {labels} {out} {t} x B (p, q) = (extraction_says b labels out B x t).0 (one_length _ _ p, q)
 
 -- OF EVERY CHART AND LABELLING THAT PASS
-many_nodes : {b labels out u : List ℕ} {e : Expr} → StartText b labels e → ExtractionAnswer b labels out TooManyNodes u → 127 < size e
+many_nodes : {b labels out u : List ℕ} {e : Expr} → StartText b labels e → ExtractionAnswer b labels out (Err TooManyNodes) u → 127 < size e
+many_nodes t (other_chart c) = elim c [ ]
+many_nodes t (other_labels P c) = elim c [ ]
 many_nodes t (too_many P s h) = subst (λ (f : Expr). 127 < size f) (one_text s t) h
 
 pub of_start_texts : (b labels : List ℕ) → Bytes labels → DrawnPasses b labels → OfStartTexts b labels
@@ -72,7 +73,7 @@ of_start_texts b labels B P = record {
   table = λ t. (table_of _, texts.text_table b labels P.chart _ t);
   one_table = λ S T. texts.one_table S ∙ sym (texts.one_table T);
   few = λ t T h out l. given B (written P t h l T) refl;
-  more = λ t out. ((λ h. given B (too_many P t h) refl), (λ g. many_nodes t (meant TooManyNodes B g)));
+  more = λ t out. ((λ h. given B (too_many P t h) refl), (λ g. many_nodes t (meant (Err TooManyNodes) B g)));
 }
 
 -- OF EVERY TABLE THAT IS WRITTEN
@@ -85,7 +86,7 @@ record WrittenTable (b labels out : List ℕ) (n : ℕ) (t : List ℕ) : Type 0 
   is_table : IsTable text table
   begins : take n t ≡ table
 
-wrote : {b labels out t : List ℕ} {n : ℕ} → ExtractionAnswer b labels out (Length n) t → WrittenTable b labels out n t
+wrote : {b labels out t : List ℕ} {n : ℕ} → ExtractionAnswer b labels out (Ok n) t → WrittenTable b labels out n t
 wrote {out = out} (written {e = e} {s = s} P t h l T) = record {
   passed = P;
   text = e;
@@ -112,10 +113,10 @@ module _ (s b labels relation : List ℕ) where
       let q = length-append (record_of 2 b) (record_of 3 labels ++ record_of 4 relation) in
       length-append (record_of 1 s) (record_of 2 b ++ (record_of 3 labels ++ record_of 4 relation)) ∙ omega arith
 
-  file_accepted : {l : ℕ} → nodes.check_of s ≡ stage.Passed → chart.check_of b ≡ stage.Passed
-      → labelling.labelled_of b labels ≡ labelled.Passed l
-      → relation_of (body_of s) b relation ≡ stage.Passed → length (file_of s b labels relation) ≤ 43536
-      → verdict_of (file_of s b labels relation) ≡ Accepted (vertices_of b) (count_of b) l
+  file_accepted : {l : ℕ} → nodes.check_of s ≡ Ok tt → chart.check_of b ≡ Ok tt
+      → labelling.labelled_of b labels ≡ Ok l
+      → relation_of (body_of s) b relation ≡ Ok tt → length (file_of s b labels relation) ≤ 43536
+      → verdict_of (file_of s b labels relation) ≡ Ok (accepted_with (vertices_of b) (count_of b) l)
   file_accepted {l} n c p r short =
       let (w, i, j, k, m) = layout_whole s b labels relation short in
       (accepted_iff (file_of s b labels relation) (vertices_of b) (count_of b) l).1 (
@@ -130,7 +131,7 @@ module _ (s b labels relation : List ℕ) where
 
 pub of_written : (b labels out : List ℕ) → Bytes labels → (n : ℕ) (t : List ℕ) → ExtractionGives b labels out (four 0 n 0 0) t
     → OfWritten b labels (take n t)
-of_written b labels out B n t g = go (wrote (meant (Length n) B g))
+of_written b labels out B n t g = go (wrote (meant (Ok n) B g))
   where
     go : WrittenTable b labels out n t → OfWritten b labels (take n t)
     go w =
@@ -144,7 +145,7 @@ of_written b labels out B n t g = go (wrote (meant (Length n) B g))
         let counts : nodes.count s ≡ suc T.root = omega (arith, post_size T.ordered, node_count_lem s T.long) in
         let (r, R, x) = some_relation b labels W s e T.root counts T.ordered w.is_text in
         let (l, y) = (labelled_iff_witness b labels c B).1 (P.long, P.reaches, P.witness) in
-        let k : nodes.check_of s ≡ stage.Passed = rw q (texts.text_passes b labels W e w.is_text w.few) in
+        let k : nodes.check_of s ≡ (Ok tt) = rw q (texts.text_passes b labels W e w.is_text w.few) in
         let rows = ((relation_iff_bisimulation (body_of s) b r).0 x).0 in
         let short : length (file_of s b labels r) ≤ 43536 =
         omega (
@@ -172,13 +173,13 @@ of_written b labels out B n t g = go (wrote (meant (Length n) B g))
         })
 
 -- DOCUMENT 01'S G
-G_labelled : labelling.labelled_of chart_g labels_g ≡ labelled.Passed 1
+G_labelled : labelling.labelled_of chart_g labels_g ≡ Ok 1
 unfolding labelling.labelled_of labelling.labelling_outcome labelling.loops_of labelling.step_test outcome loops_outcome
     failing_test loop_outcome not_lower_test cycle_test unreached_test body_test loop_list loop_test any_test reaches rounds
     values tests.some_below tests.lowest tests.first_row tests.row_pairs tests.pairs_from tests.pairs
 G_labelled = refl
 
-G_chart : chart.check_of chart_g ≡ stage.Passed
+G_chart : chart.check_of chart_g ≡ Ok tt
 unfolding chart.check_of chart.header_ok chart.fits_at chart.above_at chart.ok_at chart.first_bad chart.◌and◌
 G_chart = refl
 

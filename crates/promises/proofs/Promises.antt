@@ -6,8 +6,8 @@ use Rattle.promises.proofs.Check.{check_numbers}
 use Rattle.promises.proofs.ExpressionChart.{chart_numbers}
 use Rattle.promises.proofs.Removal.{removal_numbers}
 use Rattle.promises.proofs.Follower.{lent_numbers, call_numbers, restart_numbers}
-use Rattle.report.proofs.NumberLaws.{one_verdict, one_written, one_removed, one_together, one_followed, one_way}
-use Rattle.report.proofs.NumberLaws.{one_extracted}
+use Rattle.report.proofs.NumberLaws.{one_verdict, one_length, one_removal, one_removal, one_followed, one_length}
+use Rattle.report.proofs.NumberLaws.{one_length}
 use Rattle.promises.proofs.VertexTransitions.{handed_back_lem}
 use Rattle.promises.proofs.ShortestWay.{way_numbers_lem, of_shortest_ways}
 use Rattle.promises.proofs.LoopsTogether.{together_numbers_lem, in_every_order, empty_done, over_accepted}
@@ -24,7 +24,7 @@ promises = record {
   on_lent_bytes = lent_numbers;
   on_a_state = call_numbers;
   restart_by_value = restart_numbers;
-  numbers_tell = (one_verdict, one_written, one_removed, one_together, one_followed, one_way, one_extracted);
+  numbers_tell = (one_verdict, one_length, one_removal, one_removal, one_followed, one_length, one_length);
   vertex_transitions = handed_back_lem;
   accepted = accepted_iff_holds;
   writes_the_chart = writes_the_chart;

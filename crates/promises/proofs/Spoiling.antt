@@ -13,7 +13,8 @@ use Rattle.theory.proofs.Followers.{one_answers}
 use Rattle.theory.proofs.Runs.{chart_answers}
 use Rattle.theory.proofs.Spoiling.{answers_exactly, exactly_written}
 use Rattle.report.specs.declared.Numbers.{Numbers}
-use Rattle.report.specs.declared.Followed.TheVariants.{Taken, NotPossible, Spoilt}
+use Rattle.std.specs.Prelude.{Ok}
+use Rattle.report.specs.declared.Response.TheVariants.{NotPossible, Spoilt, Taken}
 use Rattle.bits.specs.Bits.{Bytes}
 use Rattle.chart.specs.Bodies.{WellFormed}
 use Rattle.chart.specs.Systems.{system_of, machine_of}
@@ -31,13 +32,13 @@ pub of_an_event : (b s : List ℕ) → Bytes s → StatePasses b s → (a : ℕ)
 of_an_event b s D P a = record {
   on_spoilt = λ u.
       let (n, t) = (lent_numbers b s D (event a) _ _).1
-      (record { answer = Spoilt; meant = holds_state P.long (answers.stays P.chart P.fits u); numbered = refl }) in
+      (record { answer = (Ok Spoilt); meant = holds_state P.long (answers.stays P.chart P.fits u); numbered = refl }) in
       (n, t ∙ bytes_back s P.long);
   spoils = λ u o end n h. (lent_numbers b s D (event a) _ _).1
-      (record { answer = NotPossible end n; meant = holds_state P.long (answers.spoils P.chart P.fits u o h); numbered = refl });
+      (record { answer = Ok (NotPossible end n); meant = holds_state P.long (answers.spoils P.chart P.fits u o h); numbered = refl });
   goes = λ u o g G m e end n h.
       let (k, t) = (lent_numbers b s D (event a) _ _).1
-      (record { answer = Taken end n; meant = holds_state P.long (answers.goes P.chart P.fits u o G e m h); numbered = refl }) in
+      (record { answer = Ok (Taken end n); meant = holds_state P.long (answers.goes P.chart P.fits u o G e m h); numbered = refl }) in
       (k, t ∙ ap (λ (x : ℕ). g.set ++ (x ∷ [])) m);
 }
 

@@ -19,7 +19,7 @@ use Rattle.theory.proofs.Tests.{test_of, decides_dec}
 use Rattle.theory.proofs.Systems.{same_relation}
 use Rattle.theory.proofs.TextCharts.{table_bisimulation}
 use Rattle.theory.proofs.Decisions.{remains-at?, remains_at_below}
-use Rattle.report.specs.declared.Stage.TheVariants.{Passed}
+use Rattle.std.specs.Prelude.{Ok}
 use Rattle.bits.specs.Bits.{Bytes, set_bytes}
 use Rattle.bits.proofs.SetBytes.{set_length, set_bytes_lem}
 use Rattle.chart.specs.Bodies.{vertices_of, start_of, WellFormed}
@@ -95,7 +95,7 @@ module _ (body labels : List ℕ) (W : WellFormed body) where
         (table_bisimulation (drawn_of body labels) (vertices_of body) (drawn_formed body labels W) W.header.start_high
         (node s) e root post t)))
 
-    pub some_relation : (r : List ℕ) × Bytes r × (relation_of (body_of s) body r ≡ Passed)
+    pub some_relation : (r : List ℕ) × Bytes r × (relation_of (body_of s) body r ≡ Ok tt)
     unfolding relation
     some_relation = (
       relation,

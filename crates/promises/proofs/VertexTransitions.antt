@@ -2,8 +2,8 @@
 use mathlib.Core.Path.{◌≡◌, refl}
 use mathlib.Core.List.{List, []}
 use Prim.Native.Nat.{ℕ}
-use Rattle.report.specs.declared.Stage.{Stage}
-use Rattle.report.specs.declared.Stage.TheVariants.{Passed, Refused}
+use Rattle.std.specs.Prelude.{Result, Ok, Err}
+use Rattle.report.specs.declared.Refusal.{Refusal}
 use Rattle.bits.specs.Bits.{Bytes}
 use Rattle.chart.specs.Bodies.{WellFormed}
 use Rattle.chart.specs.Checks.{check_of}
@@ -22,6 +22,6 @@ handed_back_lem b B v = record {
   refused = λ n. at_check n (check_of b) refl;
 }
   where
-    at_check : ¬ WellFormed b → (x : Stage) → check_of b ≡ x → leaving_of b v ≡ []
-    at_check n Passed e = absurd (n (well_formed b e))
-    at_check n (Refused p) e = leaving_refused b v e
+    at_check : ¬ WellFormed b → (x : Result Unit Refusal) → check_of b ≡ x → leaving_of b v ≡ []
+    at_check n (Ok _) e = absurd (n (well_formed b e))
+    at_check n (Err p) e = leaving_refused b v e

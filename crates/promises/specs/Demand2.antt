@@ -1,7 +1,7 @@
 -- Demand 2. "An expression's chart has exactly the steps that the published rules derive, none more, none fewer. A
 -- labelling passes exactly when it is a layered loop witness of a connected chart, a relation exactly when it is a
 -- bisimulation."
-use Rattle.std.specs.Prelude.{◌≡◌, ◌↔◌, ℕ, suc, ◌*◌, ◌<◌, length, drop}
+use Rattle.std.specs.Prelude.{◌≡◌, ◌↔◌, ℕ, suc, ◌*◌, ◌<◌, length, drop, Ok}
 use mathlib.Core.List.{List, ◌++◌, Memᴰ}
 use Rattle.theory.specs.Ascending.{Ascending}
 use Rattle.theory.specs.Expressions.{Expr, Target, Step}
@@ -10,9 +10,6 @@ use Rattle.theory.specs.Climbs.{LeadsBy}
 use Rattle.theory.specs.Systems.{Bisimulation}
 use Rattle.theory.specs.Transitions.{precedes}
 use Rattle.theory.specs.Witnesses.{Witness, Connected}
-use Rattle.report.specs.declared.Labelled.TheVariants as labelled
-use Rattle.report.specs.declared.Stage.TheVariants as stage
-use Rattle.report.specs.declared.Written.TheVariants as written
 use Rattle.chart.specs.Bodies.{vertices_of, start_of, count_of}
 use Rattle.chart.specs.Steps.{transitions_of, StepsOf}
 use Rattle.chart.specs.Systems.{system_of}
@@ -53,19 +50,19 @@ pub record ExactSteps (s body : List ℕ) : Type 0 where
 
 -- what is written where a length is the answer: the chart, and after it what stood there
 abbrev pub WritesTheChart : List ℕ → List ℕ → Type 0
-WritesTheChart s lent = (n : ℕ) → written_of s (length lent) ≡ written.Length n
+WritesTheChart s lent = (n : ℕ) → written_of s (length lent) ≡ Ok n
     → (body : List ℕ) × (buffer_of s lent ≡ body ++ drop n lent) × (length body ≡ n) × ExactSteps s body
 
 -- LABELLINGS, beside a chart body that passes 20 and 21
 abbrev pub LabellingPasses : List ℕ → List ℕ → Type 0
-LabellingPasses b labels = ((n : ℕ) × (labelled_of b labels ≡ labelled.Passed n))
+LabellingPasses b labels = ((n : ℕ) × (labelled_of b labels ≡ Ok n))
     ↔ ((length labels ≡ count_of b)
     × Connected (vertices_of b) (StepsOf b labels) (start_of b)
     × Witness (StepsOf b labels) (start_of b))
 
 -- RELATIONS, between two chart bodies
 abbrev pub RelationPasses : List ℕ → List ℕ → List ℕ → Type 0
-RelationPasses e b relation = (relation_of e b relation ≡ stage.Passed)
+RelationPasses e b relation = (relation_of e b relation ≡ Ok tt)
     ↔ ((length relation ≡ 16 * vertices_of e)
     × ((u v : ℕ) → Related relation u v → (u < vertices_of e) × (v < vertices_of b))
     × Bisimulation (system_of e) (system_of b) (Related relation))

@@ -1,9 +1,9 @@
 -- Demand 3: `Demand3` below, of any accepted file. First the removals: "Take the chart and labels of any accepted file,
 -- all steps standing." Here b is the chart and `labels` the labelling; a list of calls gives each a pair (v, level),
 -- whatever it is, and the standing bytes that the call before left. Then the followers. Lists of answers are compared by
--- the four numbers: of the calls' answers by document 01's (`removed_numbers`, `followed_numbers`), of the theory's as they
+-- the four numbers: of the calls' answers by document 01's (`done_numbers`, `followed_numbers`), of the theory's as they
 -- are written out here.
-use Rattle.std.specs.Prelude.{◌≡◌, ◌↔◌, Bool, false, cond, List, [], ◌∷◌, map, ℕ, ◌-◌, eqb, length, get_or, replicate}
+use Rattle.std.specs.Prelude.{◌≡◌, ◌↔◌, Bool, false, cond, List, [], ◌∷◌, map, ℕ, ◌-◌, eqb, length, get_or, replicate, Result, Ok}
 use Rattle.theory.specs.Paths.{Endless}
 use Rattle.theory.specs.Charts.{Any, Loop}
 use Rattle.theory.specs.Standing.{Loops, Inside}
@@ -16,9 +16,8 @@ use Rattle.theory.specs.Followers.{Answers}
 use Rattle.theory.specs.Events as events
 use Rattle.theory.specs.Runs.{run, run_leaves, run_fresh, kept_fresh, rule_machine}
 use Rattle.report.specs.declared.Numbers.{Numbers}
-use Rattle.report.specs.declared.Removed.{Removed}
-use Rattle.report.specs.declared.Removed.TheVariants.{Done}
-use Rattle.report.specs.Numbers.{four, flag, removed_numbers, followed_numbers}
+use Rattle.report.specs.declared.Refusal.{Refusal}
+use Rattle.report.specs.Numbers.{four, flag, done_numbers, followed_numbers}
 use Rattle.chart.specs.Bodies.{count_of}
 use Rattle.chart.specs.Steps.{StepsOf, StandingOf}
 use Rattle.chart.specs.Standing.{StandsFor}
@@ -36,8 +35,8 @@ abbrev pub all_standing : List ℕ → List ℕ
 all_standing b = replicate (count_of b) 1
 
 -- the loops of X that are not taken out when (v, l) is answered so: where it is done, all but (v, l)
-abbrev pub Remaining : Removed → ℕ → ℕ → Loops → Loops
-Remaining answer v l X u m = X u m × (answer ≡ Done → Different v l u m)
+abbrev pub Remaining : Result Unit Refusal → ℕ → ℕ → Loops → Loops
+Remaining answer v l X u m = X u m × (answer ≡ Ok tt → Different v l u m)
 
 -- "For every list of removals, refused ones included, each on the steps that the last one left: a removal is done
 -- exactly when its loop still stands and no loop stands that starts inside its body, its own start aside. After the
@@ -47,7 +46,7 @@ pub data EachRemoval (b labels : List ℕ) : (standing : List ℕ) → Loops →
   ended : {standing : List ℕ} {X : Loops} → StandsFor b labels standing X → EachRemoval b labels standing X []
   call : {standing : List ℕ} {X : Loops} {v l : ℕ} {calls : List Pair}
       → StandsFor b labels standing X
-      → (removal_of b labels v l standing ≡ Done) ↔ (X v l × ¬ Inside (StepsOf b labels) X v l)
+      → (removal_of b labels v l standing ≡ Ok tt) ↔ (X v l × ¬ Inside (StepsOf b labels) X v l)
       → EachRemoval b labels (left_of b labels v l standing) (Remaining (removal_of b labels v l standing) v l X) calls
       → EachRemoval b labels standing X ((v, l) ∷ calls)
 
@@ -61,7 +60,7 @@ plain_numbers (refused_52 v l r) = four 52 v l r
 -- nothing else, and answers ys; after the list a byte is 1 exactly for a branch, or for an entry whose loop is in the
 -- set Y that is left
 pub record AsPlainSet (b labels : List ℕ) (calls : List Pair) (ys : List Answer) (Y : Loops) : Type 0 where
-  pub answers : map removed_numbers (answers_of b labels calls (all_standing b)) ≡ map plain_numbers ys
+  pub answers : map done_numbers (answers_of b labels calls (all_standing b)) ≡ map plain_numbers ys
   pub stands : StandsFor b labels (left_after b labels calls (all_standing b)) Y
 
 -- whatever the set answers, and it has an answer to every list
@@ -81,7 +80,7 @@ branch_byte l = cond (eqb l 0) 1 0
 -- "Every such order runs with no refusal, leaves exactly the branch steps, and leaves no endless path from any vertex."
 -- An endless path goes by standing steps
 pub record RunsThrough (b labels : List ℕ) (xs : List Pair) : Type 0 where
-  pub no_refusal : answers_of b labels xs (all_standing b) ≡ map (λ x. Done) xs
+  pub no_refusal : answers_of b labels xs (all_standing b) ≡ map (λ x. (Ok tt)) xs
   pub branches : left_after b labels xs (all_standing b) ≡ map branch_byte labels
   pub no_endless : (v : ℕ) → ¬ Endless (Any (StandingOf b labels (left_after b labels xs (all_standing b)))) v
 

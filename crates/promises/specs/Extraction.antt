@@ -1,12 +1,11 @@
 -- An expression for a chart with its labelling (document 02, C-14), by the numbers; and what holds of the start's text
 -- and of the table that is written. What each answer says, with the lent bytes after it, is `ExtractionAnswer`.
-use Rattle.std.specs.Prelude.{◌≡◌, ◌↔◌, List, [], ◌∷◌, ℕ, ◌*◌, ◌<◌, ◌≤◌, length}
+use Rattle.std.specs.Prelude.{◌≡◌, ◌↔◌, List, [], ◌∷◌, ℕ, ◌*◌, ◌<◌, ◌≤◌, length, Ok}
 use Rattle.theory.specs.Expressions.{Expr}
 use Rattle.theory.specs.PostOrders.{size}
 use Rattle.report.specs.declared.Numbers.{Numbers}
-use Rattle.report.specs.declared.Stage.TheVariants.{Passed}
-use Rattle.report.specs.declared.Verdict.TheVariants.{Accepted}
-use Rattle.report.specs.Numbers.{four, extracted_numbers}
+use Rattle.report.specs.Numbers.{accepted_with}
+use Rattle.report.specs.Numbers.{four, length_numbers}
 use Rattle.bits.specs.Bits.{Bytes, bytes_with}
 use Rattle.chart.specs.Bodies.{vertices_of, count_of}
 use Rattle.chart.specs.Steps.{StepsOf}
@@ -23,11 +22,11 @@ use Rattle.promises.specs.Numbered.{Gives, ByNumbers}
 module _ (b labels out : List ℕ) where
   -- the answer has these numbers, and these bytes are left
   abbrev pub ExtractionGives : Numbers → (t : List ℕ) → Type 0
-  ExtractionGives = Gives extracted_numbers (extracted_of b labels (length out)) (extracted_left b labels out)
+  ExtractionGives = Gives length_numbers (extracted_of b labels (length out)) (extracted_left b labels out)
 
   -- it answers n p q r and leaves these bytes exactly where that is meant
   abbrev pub ExtractionByNumbers : Type 0
-  ExtractionByNumbers = ByNumbers extracted_numbers (ExtractionAnswer b labels out)
+  ExtractionByNumbers = ByNumbers length_numbers (ExtractionAnswer b labels out)
       (extracted_of b labels (length out)) (extracted_left b labels out)
 
 -- OF EVERY CHART AND LABELLING THAT PASS
@@ -52,14 +51,14 @@ pub record OfWritten (b labels s : List ℕ) : Type 0 where
   pub is_text : StartText b labels text
   pub is_table : IsTable text s
   -- it passes 10 to 12, and some relation passes 40 to 45 against the chart
-  pub passes : check_of s ≡ Passed
+  pub passes : check_of s ≡ Ok tt
   pub relation : List ℕ
   pub relation_bytes : Bytes relation
-  pub related : relation_of (body_of s) b relation ≡ Passed
+  pub related : relation_of (body_of s) b relation ≡ Ok tt
   -- so the yard file of the table, the chart, its labelling and that relation is accepted
   pub loops : ℕ
   pub number_of_loops : NumberOfLoops (StepsOf b labels) loops
-  pub accepted : verdict_of (file_of s b labels relation) ≡ Accepted (vertices_of b) (count_of b) loops
+  pub accepted : verdict_of (file_of s b labels relation) ≡ Ok (accepted_with (vertices_of b) (count_of b) loops)
 
 -- DOCUMENT 01'S G: its chart, its labels, and the nodes of its expression
 abbrev pub chart_g : List ℕ

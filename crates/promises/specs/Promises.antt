@@ -1,13 +1,13 @@
 -- ALL THAT IS PROMISED, in one record; its proof is `promises`. The contracts of the code say by equation that the calls
 -- answer and leave what the functions here do: `verdict_of`, `written_of`, `removal_of`, `called_on`, `lent_on` and so on. `Bytes` has
 -- every entry of a list below 256, which the code's types say of what comes in.
-use Rattle.std.specs.Prelude.{◌≡◌, ◌↔◌, List, take, ℕ}
+use Rattle.std.specs.Prelude.{◌≡◌, ◌↔◌, List, take, ℕ, Ok}
 use Rattle.theory.specs.Charts.{Loop}
 use Rattle.theory.specs.Standing.{Loops}
 use Rattle.theory.specs.Events.{Call, restart}
-use Rattle.report.specs.declared.Verdict.TheVariants.{Accepted}
-use Rattle.report.specs.Numbers.{four, verdict_numbers, written_numbers, removed_numbers, together_numbers, followed_numbers}
-use Rattle.report.specs.Numbers.{way_numbers, extracted_numbers}
+use Rattle.report.specs.Numbers.{accepted_with}
+use Rattle.report.specs.Numbers.{four, verdict_numbers, length_numbers, done_numbers, done_numbers, followed_numbers}
+use Rattle.report.specs.Numbers.{length_numbers, length_numbers}
 use Rattle.bits.specs.Bits.{Bytes}
 use Rattle.chart.specs.Bodies.{WellFormed}
 use Rattle.chart.specs.Standing.{StandsFor}
@@ -46,12 +46,12 @@ pub record Promises : Type 1 where
   pub on_a_state : (b : List ℕ) (f : Follower) → Formed f → (c : Call) → CallByNumbers b f c
   pub restart_by_value : (b : List ℕ) → CallByNumbers b no_state restart
   -- of each call no two answers have the same four numbers
-  pub numbers_tell : Telling verdict_numbers × Telling written_numbers × Telling removed_numbers × Telling together_numbers
-      × Telling followed_numbers × Telling way_numbers × Telling extracted_numbers
+  pub numbers_tell : Telling verdict_numbers × Telling length_numbers × Telling done_numbers × Telling done_numbers
+      × Telling followed_numbers × Telling length_numbers × Telling length_numbers
   -- the transitions of a vertex, as a part of the caller's chart bytes
   pub vertex_transitions : (b : List ℕ) → Bytes b → (v : ℕ) → HandedBack b v
   -- DEMAND 2: which files are accepted, and with which counts
-  pub accepted : (f : List ℕ) → Bytes f → (v t l : ℕ) → (verdict_of f ≡ Accepted v t l) ↔ Holds f v t l
+  pub accepted : (f : List ℕ) → Bytes f → (v t l : ℕ) → (verdict_of f ≡ Ok (accepted_with v t l)) ↔ Holds f v t l
   -- an expression's chart has exactly the steps that the published rules derive
   pub writes_the_chart : (s out : List ℕ) → WritesTheChart s out
   -- a labelling passes exactly when it is a layered loop witness of a connected chart
@@ -59,7 +59,7 @@ pub record Promises : Type 1 where
   -- a relation exactly when it is a bisimulation
   pub relation_passes : (e b relation : List ℕ) → RelationPasses e b relation
   -- DEMAND 3, over an accepted file: removals and followers
-  pub over_accepted : (f : List ℕ) → Bytes f → (v t l : ℕ) → verdict_of f ≡ Accepted v t l → Demand3 f
+  pub over_accepted : (f : List ℕ) → Bytes f → (v t l : ℕ) → verdict_of f ≡ Ok (accepted_with v t l) → Demand3 f
   -- DOCUMENT 02. C-11, the shortest way: each answer, and what holds of the list
   pub shortest_way_lem : (b s out : List ℕ) → Bytes b → Bytes s → WayByNumbers b s out
   pub shortest_ways : (b s : List ℕ) → Bytes b → Bytes s → StatePasses b s → OfShortestWays b s
@@ -67,9 +67,9 @@ pub record Promises : Type 1 where
   -- where the bytes stand for a plain set X of its loops
   pub loops_together : (b labels loops standing : List ℕ) → Bytes labels → TogetherByNumbers b labels loops standing
   pub in_every_order : (b labels loops standing : List ℕ) → Bytes labels
-      → together_numbers (together_of b labels loops standing) ≡ four 0 0 0 0 → InEveryOrder b labels loops standing
+      → done_numbers (together_of b labels loops standing) ≡ four 0 0 0 0 → InEveryOrder b labels loops standing
   pub empty_done : (b labels standing : List ℕ) → Bytes labels → Fits b labels standing → EmptyDone b labels standing
-  pub together_accepted : (f : List ℕ) → Bytes f → (v t l : ℕ) → verdict_of f ≡ Accepted v t l
+  pub together_accepted : (f : List ℕ) → Bytes f → (v t l : ℕ) → verdict_of f ≡ Ok (accepted_with v t l)
       → (X : Loops) → ((u m : ℕ) → X u m → Loop (steps_in f) u m)
       → (standing : List ℕ) → StandsFor (chart_in f) (labels_in f) standing X → OverAccepted f X standing
   -- C-14, an expression for a drawn chart: each answer; of a chart and a labelling that pass, the start's text; the

@@ -2,7 +2,7 @@
 -- after it, is `WayAnswer`.
 use Rattle.std.specs.Prelude.{◌≡◌, ◌⊎◌, List, [], ℕ, ◌<◌, length}
 use Rattle.report.specs.declared.Numbers.{Numbers}
-use Rattle.report.specs.Numbers.{four, way_numbers}
+use Rattle.report.specs.Numbers.{four, length_numbers}
 use Rattle.chart.specs.Bodies.{vertices_of}
 use Rattle.follower.specs.States.{state_in, InState, Unspoilt, IsSpoilt}
 use Rattle.follower.specs.Ways.{way_of, way_left}
@@ -10,10 +10,10 @@ use Rattle.follower.specs.WayAnswers.{event_answers, ShortestWay, OnlyTaken, NoE
 use Rattle.promises.specs.Numbered.{Gives, ByNumbers}
 
 abbrev pub WayGives : (b s out : List ℕ) → Numbers → List ℕ → Type 0
-WayGives b s out = Gives way_numbers (way_of b s (length out)) (way_left b s out)
+WayGives b s out = Gives length_numbers (way_of b s (length out)) (way_left b s out)
 
 abbrev pub WayByNumbers : (b s out : List ℕ) → Type 0
-WayByNumbers b s out = ByNumbers way_numbers (WayAnswer b s out) (way_of b s (length out)) (way_left b s out)
+WayByNumbers b s out = ByNumbers length_numbers (WayAnswer b s out) (way_of b s (length out)) (way_left b s out)
 
 -- OF EVERY STATE THAT PASSES
 pub record OfShortestWays (b s : List ℕ) : Type 0 where

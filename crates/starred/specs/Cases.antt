@@ -5,7 +5,7 @@ use Rattle.theory.specs.Nodes.{expr}
 use Rattle.theory.specs.Events.{Call, restart, event, event_rule}
 use Rattle.theory.specs.Runs.{run, run_leaves, run_fresh, rule_machine}
 use Rattle.report.specs.declared.Numbers.{Numbers}
-use Rattle.report.specs.Numbers.{four, verdict_numbers, written_numbers, removed_numbers, followed_numbers}
+use Rattle.report.specs.Numbers.{four, verdict_numbers, length_numbers, done_numbers, followed_numbers}
 use Rattle.expression.specs.Table.{node, count}
 use Rattle.expression.specs.Body.{written_of, buffer_of}
 use Rattle.witness.specs.Labellings.{labelled_of}
@@ -56,10 +56,10 @@ holds (checks file answer) = same_numbers (verdict_numbers (verdict_of file)) an
 holds (labels body labelling answer) =
     same_numbers (verdict_numbers (on_loops (labelled_of body labelling) (accepted body))) answer
 holds (writes nodes lent answer left) =
-    same_numbers (written_numbers (written_of nodes (length lent))) answer
+    same_numbers (length_numbers (written_of nodes (length lent))) answer
     && same_bytes (buffer_of nodes lent) left
 holds (removes body labelling v level standing answer left) =
-    same_numbers (removed_numbers (removal_of body labelling v level standing)) answer
+    same_numbers (done_numbers (removal_of body labelling v level standing)) answer
     && same_bytes (left_of body labelling v level standing) left
 holds (follows body state calls answers left) =
     same_answers (map followed_numbers (run (call_by_value body) calls (state_in state))) answers
