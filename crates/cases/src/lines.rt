@@ -1,132 +1,116 @@
-// What a line does before a call: it turns to a part and changes its bytes.
-ghost use Rattle.std.specs.Prelude.{◌<◌, ◌≤◌};
+// What a line of the table says.
+use crate::records::{Edit, Part};
+use crate::words::{next_word, number};
 
-use crate::records::{FILE, KEPT, ROOM, copy, join, least, repeat, set_size, size, write};
-use crate::words::{after, find, number, part, place};
-
-// A line's first word by its number: first the parts' names, as the parts are numbered, then what changes a part, what
-// else a line does before a call, a remark and a line without words, and the calls.
-pub(crate) fn word_of(line: &[u8]) -> usize {
-    place(
-        b"nodes chart labels relation file more repeat at row cut keep case standing state #  \
-        check leaving take together left write expression way restart event by ",
-        part(line, 0, find(line, 0, b' ')),
-    )
+// A line of the table; the word that it begins with says which.
+#[derive(Clone, Copy)]
+pub(crate) enum Line<'a> {
+    // a record's name and its bytes, and the file; the lines below change that part
+    Record(Part, &'a [u8]),
+    File,
+    Change(Edit<'a>),
+    Keep,
+    // with its name
+    Case(&'a [u8]),
+    // with the bytes to lend
+    Lend(&'a [u8]),
+    // a remark, or a line without words
+    Remark,
+    Call(Call<'a>),
 }
 
-pub(crate) const MORE: usize = 5;
+// A call, with what it is given.
+#[derive(Clone, Copy)]
+pub(crate) enum Call<'a> {
+    Check,
+    Leaving(usize),
+    // vertex and level
+    Take(usize, usize),
+    // the bytes of the list, and what follows on the line
+    Together(&'a [u8]),
+    Left,
+    // how many bytes are lent, as in the next two
+    Write(usize),
+    Expression(usize),
+    Way(usize),
+    Follow(Step),
+    FollowByValue(Step),
+    NotUnderstood,
+}
 
-pub(crate) const REPEAT: usize = 6;
+// What a follower is given: a restart, or an event's action.
+#[derive(Clone, Copy)]
+pub(crate) enum Step {
+    Restart,
+    Event(u8),
+}
 
-pub(crate) const ROW: usize = 8;
+fn size(text: &[u8]) -> usize {
+    number(text) as usize
+}
 
-pub(crate) const CUT: usize = 9;
+// The action of an event.
+fn action(text: &[u8]) -> u8 {
+    (number(text) % 256) as u8
+}
 
-pub(crate) const KEEP: usize = 10;
-
-pub(crate) const CASE: usize = 11;
-
-pub(crate) const STANDING: usize = 12;
-
-pub(crate) const STATE: usize = 13;
-
-pub(crate) const CHECK: usize = 16;
-
-pub(crate) const LEAVING: usize = 17;
-
-pub(crate) const TAKE: usize = 18;
-
-pub(crate) const TOGETHER: usize = 19;
-
-pub(crate) const LEFT: usize = 20;
-
-pub(crate) const WRITE: usize = 21;
-
-pub(crate) const EXPRESSION: usize = 22;
-
-pub(crate) const WAY: usize = 23;
-
-pub(crate) const RESTART: usize = 24;
-
-pub(crate) const BY: usize = 26;
-
-// The offset at which a line's bytes begin: a record's name replaces all that there is.
-fn offset(word: usize, size: usize, n: usize) -> usize
-    requires { (size < 65536) × (n < 1000000) }
-    ensures { result < 16000000 }
-{
-    if word < FILE {
-        return 0;
+// `restart`, or any other word with an action behind it.
+fn parse_step(text: &[u8]) -> Step {
+    match next_word(text) {
+        (b"restart", _) => Step::Restart,
+        (_, rest) => Step::Event(action(rest)),
     }
-    if word == MORE {
-        return size;
+}
+
+fn parse_repeat(rest: &[u8]) -> Edit {
+    let (count, rest) = next_word(rest);
+    let (back, steps) = next_word(rest);
+    Edit::Repeat {
+        count: number(count),
+        back: number(back),
+        steps,
     }
-    if word == ROW { 16 * n } else { n }
 }
 
-// What a line has before its bytes, in words.
-fn words_before(word: usize) -> usize {
-    if word <= MORE { 1 } else { 2 }
-}
-
-// The size of a part after bytes were written up to an end; a record's name without bytes changes nothing.
-fn resized(word: usize, size: usize, end: usize) -> usize {
-    if end < size {
-        if word < FILE {
-            if end > 0 {
-                return end;
-            }
+impl<'a> From<&'a [u8]> for Call<'a> {
+    fn from(text: &'a [u8]) -> Self {
+        let (word, rest) = next_word(text);
+        match word {
+            b"check" => Call::Check,
+            b"leaving" => Call::Leaving(size(rest)),
+            b"take" => Call::Take(size(rest), size(next_word(rest).1)),
+            b"together" => Call::Together(rest),
+            b"left" => Call::Left,
+            b"write" => Call::Write(size(rest)),
+            b"expression" => Call::Expression(size(rest)),
+            b"way" => Call::Way(size(rest)),
+            b"restart" => Call::Follow(Step::Restart),
+            b"event" => Call::Follow(Step::Event(action(rest))),
+            b"by" => Call::FollowByValue(parse_step(next_word(rest).1)),
+            _ => Call::NotUnderstood,
         }
-        return size;
-    }
-    end
-}
-
-// Changes a part's bytes; answers how many there are.
-fn changed(bytes: &mut [u8], start: usize, size: usize, word: usize, line: &[u8]) -> usize
-    requires { (start < 300000) × (size < 65536) }
-{
-    let n = number(after(line, 1));
-    if word == CUT {
-        return least(n, size);
-    }
-    if word == REPEAT {
-        let back = number(after(line, 2));
-        repeat(bytes, start + size, n, back, after(line, 3));
-        return size + n;
-    }
-    let text = after(line, words_before(word));
-    let end = write(bytes, start + offset(word, size, n), text);
-    resized(word, size, end - start)
-}
-
-fn change(bytes: &mut [u8], k: usize, word: usize, line: &[u8]) {
-    if k <= FILE {
-        let before = size(bytes, k);
-        let after = changed(bytes, k * ROOM + 4, before, word, line);
-        set_size(bytes, k, after);
     }
 }
 
-// A line that calls nothing; k is the part that the lines have turned to.
-pub(crate) fn prepare(bytes: &mut [u8], k: usize, word: usize, line: &[u8]) {
-    if word < FILE {
-        change(bytes, word, word, line);
-        return;
-    }
-    if word == FILE {
-        join(bytes, 0);
-        return;
-    }
-    if word <= CUT {
-        change(bytes, k, word, line);
-        return;
-    }
-    if word == KEEP {
-        copy(bytes, 0, KEPT * ROOM, 4 * ROOM);
-        return;
-    }
-    if word == CASE {
-        copy(bytes, KEPT * ROOM, 0, 4 * ROOM);
+impl<'a> From<&'a [u8]> for Line<'a> {
+    fn from(text: &'a [u8]) -> Self {
+        let (word, rest) = next_word(text);
+        match word {
+            b"nodes" => Line::Record(Part::Nodes, rest),
+            b"chart" => Line::Record(Part::Chart, rest),
+            b"labels" => Line::Record(Part::Labels, rest),
+            b"relation" => Line::Record(Part::Relation, rest),
+            b"file" => Line::File,
+            b"more" => Line::Change(Edit::More(rest)),
+            b"repeat" => Line::Change(parse_repeat(rest)),
+            b"at" => Line::Change(Edit::At(number(rest), next_word(rest).1)),
+            b"row" => Line::Change(Edit::At(16 * number(rest), next_word(rest).1)),
+            b"cut" => Line::Change(Edit::Cut(number(rest))),
+            b"keep" => Line::Keep,
+            b"case" => Line::Case(rest),
+            b"standing" | b"state" => Line::Lend(rest),
+            b"#" | b"" => Line::Remark,
+            _ => Line::Call(Call::from(text)),
+        }
     }
 }

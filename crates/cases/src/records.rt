@@ -1,139 +1,193 @@
-// The parts that a table's lines write: the four records, the file that they make, and the four records that were kept.
-// Each has 65,536 bytes of one lent array, and begins with a record's header, which says its size.
-ghost use Rattle.std.specs.Prelude.{◌<◌, ◌≤◌};
+// The parts that a table's lines write: the four records, and the file that they make.
+ghost use Rattle.std.specs.Prelude.{◌≡◌, ◌*◌, ◌^◌, ◌<◌, ◌≤◌, IfOk, vec_len};
+ghost use Rattle.cases.specs.declared.records.TheConstants.{MEMORY};
 
-use crate::words::{digit, part};
-use std::num::wrapping_add_u8;
+use crate::words::Hex;
+use std::alloc::{AllocError, Global};
 
-pub(crate) const NODES: usize = 0;
-
-pub(crate) const CHART: usize = 1;
-
-pub(crate) const LABELS: usize = 2;
-
-pub(crate) const FILE: usize = 4;
-
-pub(crate) const KEPT: usize = 5;
-
-// the steps of a line, behind all parts
-const STEPS: usize = 589824;
-
-pub(crate) const ROOM: usize = 65536;
-
-pub(crate) fn least(a: usize, b: usize) -> usize
-    ensures { (result ≤ a) × (result ≤ b) }
-{
-    if a < b { a } else { b }
+#[derive(Clone, Copy, PartialEq, Eq)]
+pub(crate) enum Part {
+    Nodes,
+    Chart,
+    Labels,
+    Relation,
+    File,
 }
 
-fn byte(bytes: &[u8], at: usize) -> u8 {
-    if at < bytes.len() {
-        return bytes[at];
-    }
-    0
-}
+// The records in their order.
+const RECORDS: [Part; 4] = [Part::Nodes, Part::Chart, Part::Labels, Part::Relation];
 
-fn put(bytes: &mut [u8], at: usize, value: u8) {
-    if at < bytes.len() {
-        bytes[at] = value;
-    }
-}
+// How many bytes of the memory a part has, and how many of them are its header, whose first two are its size and the
+// third its kind.
+const ROOM: usize = 65_536;
 
-pub(crate) fn copy(bytes: &mut [u8], from: usize, to: usize, count: usize)
-    requires { (from < 1000000) × (to < 1000000) × (count < 1000000) }
-{
-    for i in 0..count {
-        let value = byte(bytes, from + i);
-        put(bytes, to + i, value);
+const HEADER: usize = 4;
+
+// Where the four records stand that were kept, and behind them the steps of a `repeat`.
+const KEPT: usize = 5 * ROOM;
+
+const STEPS: usize = 9 * ROOM;
+
+const MEMORY: usize = 10 * ROOM;
+
+// How many bytes of a chart that a call wrote become the record: those of a line of 4,096 characters, three for each.
+const WRITTEN: usize = 4096 / 3;
+
+impl Part {
+    fn start(self) -> usize
+        ensures { result ≤ 4 * ROOM }
+    {
+        ROOM * self as usize
     }
 }
 
-// Shifts a hexadecimal digit into a byte: two of them are all of it.
-fn shift(bytes: &mut [u8], at: usize, digit: u8)
-    requires { digit < 16 }
-{
-    let value = byte(bytes, at) % 16 * 16 + digit;
-    put(bytes, at, value);
+// What a line does to a part.
+#[derive(Clone, Copy)]
+pub(crate) enum Edit<'a> {
+    // these bytes are all that there are; without bytes nothing changes
+    Replace(&'a [u8]),
+    // these bytes behind the last one
+    More(&'a [u8]),
+    // these bytes from an offset on
+    At(u32, &'a [u8]),
+    // more bytes, each the one that many back plus a step; the steps are taken in turn, none is 0
+    Repeat {
+        count: u32,
+        back: u32,
+        steps: &'a [u8],
+    },
+    // only the first bytes
+    Cut(u32),
 }
 
-// Writes bytes from a place on, two hexadecimal digits each, and answers the place after them. All else in the text is
-// passed over.
-pub(crate) fn write(bytes: &mut [u8], at: usize, text: &[u8]) -> usize
-    requires { at < 100000000 }
-    ensures { at ≤ result }
-{
-    let mut digits: usize = 0;
-    for i in 0..text.len() {
-        let d = digit(text[i]);
-        if d < 16 {
-            shift(bytes, at + digits / 2, d);
-            digits += 1;
+// The parts stand one behind the other in one memory, each with a header, and not each in a Vec of its own: a line can
+// write past a part's end into the next one, and read there what it wrote, which may not change.
+#[derive(Drop)]
+pub(crate) struct Parts {
+    memory: Vec<u8>,
+    ghost complete: { vec_len memory ≡ MEMORY },
+}
+
+impl Parts {
+    pub(crate) fn new(alloc: Global) -> Result<Parts, AllocError> {
+        let memory = vec![in alloc; 0; MEMORY]?;
+        Ok(Parts { memory })
+    }
+
+    // How many bytes a part has.
+    fn size(&self, part: Part) -> usize
+        ensures { result < ROOM }
+    {
+        let at = part.start();
+        usize::from(u16::from_le_bytes([self.memory[at], self.memory[at + 1]]))
+    }
+
+    // A size of 65,536 or more begins at 0 again.
+    fn set_size(&mut self, part: Part, size: usize) {
+        let at = part.start();
+        let [low, high] = ((size % ROOM) as u16).to_le_bytes();
+        self.memory[at] = low;
+        self.memory[at + 1] = high;
+        self.memory[at + 2] = part as u8 + 1;
+    }
+
+    // The bytes of a part.
+    pub(crate) fn body(&self, part: Part) -> &[u8] {
+        let at = part.start() + HEADER;
+        &self.memory[at..at + self.size(part)]
+    }
+
+    // A byte of the memory, and 0 behind its end.
+    fn byte(&self, at: usize) -> u8 {
+        self.memory.get(at).copied().unwrap_or(0)
+    }
+
+    // Writes bytes from a place on, of which those that the memory has no room for are dropped.
+    fn put(&mut self, at: usize, bytes: &[u8]) {
+        if at < MEMORY {
+            let count = bytes.len().min(MEMORY - at);
+            self.memory[at..at + count].copy_from_slice(&bytes[..count]);
         }
     }
-    at + digits / 2
-}
 
-fn back_from(at: usize, back: usize) -> usize {
-    if back <= at { at - back } else { 0 }
-}
-
-// Which of some steps comes at a place, where they are taken in turn.
-fn turn(place: usize, steps: usize) -> usize
-    ensures { result ≤ place }
-{
-    if steps == 0 {
-        return 0;
+    // Writes a text's bytes from a place on, and answers their number. A last digit alone shifts into the byte behind
+    // them.
+    fn write(&mut self, at: usize, text: &[u8]) -> Result<usize, AllocError>
+        requires { at < 2 ^ 40 }
+        ensures { IfOk result (λ written. written < 2 ^ 63) }
+    {
+        let Hex { bytes, half } = Hex::parse(*self.memory.allocator(), text)?;
+        self.put(at, &bytes);
+        if let Some(digit) = half {
+            let end = at + bytes.len();
+            self.put(end, &[(self.byte(end) << 4) | digit]);
+        }
+        Ok(bytes.len())
     }
-    least(place, place % steps)
-}
 
-// Writes more bytes from a place on, each the one that many back plus a step; without steps it is 0.
-pub(crate) fn repeat(bytes: &mut [u8], at: usize, count: usize, back: usize, steps: &[u8])
-    requires { (at < 1000000) × (count < 1000000) }
-{
-    put(bytes, STEPS, 0);
-    let given = write(bytes, STEPS, steps) - STEPS;
-    for i in 0..count {
-        let step = byte(bytes, STEPS + turn(i, given));
-        let value = wrapping_add_u8(byte(bytes, back_from(at + i, back)), step);
-        put(bytes, at + i, value);
+    fn repeat(&mut self, at: usize, count: u32, back: u32, steps: &[u8]) -> Result<(), AllocError>
+        requires { at < 2 ^ 40 }
+    {
+        self.put(STEPS, &[0]);
+        let given = self.write(STEPS, steps)?;
+        for i in 0..count as usize {
+            let turn = if given == 0 { 0 } else { i % given };
+            let earlier = self.byte((at + i).saturating_sub(back as usize));
+            self.put(at + i, &[earlier.wrapping_add(self.byte(STEPS + turn))]);
+        }
+        Ok(())
     }
-}
 
-// How many bytes a part has.
-pub(crate) fn size(bytes: &[u8], k: usize) -> usize
-    requires { k ≤ 8 }
-    ensures { result < 65536 }
-{
-    byte(bytes, k * ROOM) as usize + 256 * (byte(bytes, k * ROOM + 1) as usize)
-}
-
-pub(crate) fn set_size(bytes: &mut [u8], k: usize, size: usize)
-    requires { k ≤ 8 }
-{
-    put(bytes, k * ROOM, (size % 256) as u8);
-    put(bytes, k * ROOM + 1, (size / 256 % 256) as u8);
-    put(bytes, k * ROOM + 2, k as u8 + 1);
-}
-
-// Puts the file of the four records together, unless the lines have turned to it already.
-pub(crate) fn join(bytes: &mut [u8], part: usize) {
-    if part == FILE {
-        return;
+    pub(crate) fn edit(&mut self, part: Part, edit: Edit) -> Result<(), AllocError> {
+        let start = part.start() + HEADER;
+        let size = self.size(part);
+        let size = match edit {
+            Edit::Replace(text) => match self.write(start, text)? {
+                0 => size,
+                written => written,
+            },
+            Edit::More(text) => size + self.write(start + size, text)?,
+            Edit::At(offset, text) => {
+                let offset = offset as usize;
+                size.max(offset + self.write(start + offset, text)?)
+            }
+            Edit::Repeat { count, back, steps } => {
+                self.repeat(start + size, count, back, steps)?;
+                size + count as usize
+            }
+            Edit::Cut(count) => size.min(count as usize),
+        };
+        self.set_size(part, size);
+        Ok(())
     }
-    let mut at = FILE * ROOM + 4;
-    for k in 0..4 {
-        let size = size(bytes, k) + 4;
-        copy(bytes, k * ROOM, at, size);
-        at += size;
-    }
-    set_size(bytes, FILE, at - FILE * ROOM - 4);
-}
 
-// The bytes of a part.
-pub(crate) fn body(bytes: &[u8], k: usize) -> &[u8]
-    requires { k ≤ 4 }
-{
-    let start = k * ROOM + 4;
-    part(bytes, start, start + size(bytes, k))
+    // Bytes that a call wrote become a record.
+    pub(crate) fn replace(&mut self, part: Part, bytes: &[u8]) {
+        let size = bytes.len().min(WRITTEN);
+        self.put(part.start() + HEADER, &bytes[..size]);
+        self.set_size(part, size);
+    }
+
+    // Puts the file of the four records together.
+    pub(crate) fn join(&mut self) {
+        let start = Part::File.start() + HEADER;
+        let mut end = start;
+        for part in RECORDS {
+            let from = part.start();
+            let size = HEADER + self.size(part);
+            self.memory.copy_within(from..from + size, end);
+            end += size;
+        }
+        self.set_size(Part::File, end - start);
+    }
+
+    // Keeps the four records.
+    pub(crate) fn keep(&mut self) {
+        self.memory.copy_within(..4 * ROOM, KEPT);
+    }
+
+    // The four records are again those that were kept.
+    pub(crate) fn restore(&mut self) {
+        self.memory.copy_within(KEPT..KEPT + 4 * ROOM, 0);
+    }
 }

@@ -1,113 +1,65 @@
-// The words of a line, which one space parts, and the numbers that they write.
-ghost use Rattle.std.specs.Prelude.{◌<◌, ◌≤◌, length};
+// The words of a line, which one space parts, and the numbers and the bytes that they write.
+ghost use Rattle.std.specs.Prelude.{◌<◌};
 
-// The first place from `at` on that holds a byte, or the end.
-pub(crate) fn find(text: &[u8], at: usize, byte: u8) -> usize
-    requires { at ≤ length text.now }
-    ensures { (at ≤ result) × (result ≤ length text.now) }
-{
-    let mut i = at;
-    while i < text.len() {
-        if text[i] == byte {
-            return i;
-        }
-        i += 1;
+use std::alloc::{AllocError, Global};
+
+// What stands before the first such byte, and what stands behind it; all and nothing where there is none.
+pub(crate) fn split_once(text: &[u8], byte: u8) -> (&[u8], &[u8]) {
+    match text.iter().position(|other| *other == byte) {
+        Some(at) => (&text[..at], &text[at + 1..]),
+        None => text.split_at(text.len()),
     }
-    i
 }
 
-// A part of a text; nothing where it has no such part.
-pub(crate) fn part(text: &[u8], from: usize, to: usize) -> &[u8] {
-    if to <= text.len() {
-        if from <= to {
-            return &text[from..to];
-        }
-    }
-    &text[..0]
+// A line's next word, and the words after it.
+pub(crate) fn next_word(line: &[u8]) -> (&[u8], &[u8]) {
+    split_once(line, b' ')
 }
 
-pub(crate) fn same(a: &[u8], b: &[u8]) -> bool {
-    if a.len() != b.len() {
-        return false;
-    }
-    let mut i: usize = 0;
-    while i < a.len() {
-        if a[i] != b[i] {
-            return false;
-        }
-        i += 1;
-    }
-    true
-}
-
-// The place after the next space.
-fn past_space(line: &[u8], at: usize) -> usize
-    requires { at ≤ length line.now }
-    ensures { result ≤ length line.now }
-{
-    let end = find(line, at, b' ');
-    if end < line.len() { end + 1 } else { end }
-}
-
-// What follows the first words of a line.
-pub(crate) fn after(line: &[u8], words: usize) -> &[u8] {
-    let mut at: usize = 0;
-    for _ in 0..words {
-        at = past_space(line, at);
-    }
-    part(line, at, line.len())
-}
-
-// Which of some words a word is, each of them followed by a space; their number where it is none.
-pub(crate) fn place(words: &[u8], word: &[u8]) -> usize {
-    let mut at: usize = 0;
-    let mut n: usize = 0;
-    while at < words.len() {
-        let end = find(words, at, b' ');
-        if same(part(words, at, end), word) {
-            return n;
-        }
-        at = end + 1;
-        n += 1;
-    }
-    n
-}
-
-// The value of a hexadecimal digit; 16 for any other byte.
-pub(crate) fn digit(byte: u8) -> u8
-    ensures { result ≤ 16 }
-{
-    if byte < b'0' {
-        return 16;
-    }
-    if byte <= b'9' {
-        return byte - b'0';
-    }
-    if byte < b'A' {
-        return 16;
-    }
-    if byte <= b'F' {
-        return byte - b'A' + 10;
-    }
-    16
-}
-
-// The decimal number at the beginning of a text, of six digits at most.
-pub(crate) fn number(text: &[u8]) -> usize
+// The decimal number at the beginning of a text, of six digits at most besides zeros in front; 0 where there is none.
+pub(crate) fn number(text: &[u8]) -> u32
     ensures { result < 1000000 }
 {
-    let mut value: usize = 0;
-    let mut i: usize = 0;
-    while i < text.len() {
-        let d = digit(text[i]) as usize;
-        if d > 9 {
-            return value;
+    let mut value = 0;
+    for byte in text {
+        if !byte.is_ascii_digit() || value > 99_999 {
+            break;
         }
-        if value > 99999 {
-            return value;
-        }
-        value = 10 * value + d;
-        i += 1;
+        value = 10 * value + u32::from(*byte - b'0');
     }
     value
+}
+
+// The value of a hexadecimal digit, of those in capitals alone.
+fn hex_digit(byte: u8) -> Option<u8> {
+    match byte {
+        b'0'..=b'9' => Some(byte - b'0'),
+        b'A'..=b'F' => Some(byte - b'A' + 10),
+        _ => None,
+    }
+}
+
+// What a text writes in hexadecimal: bytes of two digits each, and the last digit where their number is odd. All else
+// in the text is passed over.
+#[derive(Drop)]
+pub(crate) struct Hex {
+    pub(crate) bytes: Vec<u8>,
+    pub(crate) half: Option<u8>,
+}
+
+impl Hex {
+    pub(crate) fn parse(alloc: Global, text: &[u8]) -> Result<Hex, AllocError> {
+        let mut bytes = Vec::new(alloc);
+        let mut half = None;
+        for digit in text.iter().filter_map(|byte| hex_digit(*byte)) {
+            half = match half {
+                None => Some(digit),
+                Some(high) => {
+                    bytes.push((high << 4) | digit)?;
+                    None
+                }
+            };
+        }
+        Ok(Hex { bytes, half })
+    }
 }
