@@ -16,10 +16,9 @@ use Rattle.expression.specs.Table.{count}
 use Rattle.expression.specs.Body.{body_of}
 use Rattle.expression.proofs.Table.{passed→well_formed}
 use Rattle.expression.proofs.Chart.{body_vertices, body_start, body_passes}
-use Rattle.witness.specs.Labellings.{labelled_of}
-use Rattle.bisimulation.specs.Relations.{relation_of}
 use Rattle.bisimulation.specs.Answers.{ListedChart, NumberedChart}
-use Rattle.verdict.specs.Verdicts.{nodes_in, chart_in, labels_in, relation_in, ComeToPairs}
+use Rattle.report.specs.declared.Accepted.{Accepted}
+use Rattle.verdict.specs.Verdicts.{nodes_in, chart_in, labels_in, relation_in, drawn_of, ComeToPairs}
 
 -- the vertices of the expression's chart: one for each node, and the end
 pub nodes_few : (s : List ℕ) → expression.check_of s ≡ Ok tt → length s / 4 + 1 ≤ 128
@@ -51,11 +50,7 @@ module _ {nodes b relation keys words : List ℕ} {vertices m : ℕ} (B : Bytes 
 pub stage_in : (check : List ℕ → Result Unit Refusal) {x y : List ℕ} {s t : Result Unit Refusal} → x ≡ y → s ≡ check x → s ≡ t → check y ≡ t
 stage_in check q e h = ap check (sym q) ∙ sym e ∙ h
 
-module _ (f : List ℕ) {b : List ℕ} (j : b ≡ chart_in f) where
-  pub labelling_in : {l : List ℕ} {s t : Result ℕ Refusal} → l ≡ labels_in f → s ≡ labelled_of b l → s ≡ t
-      → labelled_of (chart_in f) (labels_in f) ≡ t
-  labelling_in k e h = rw (← j, ← k, ← e) h
-
-  pub relation_in_lem : {n r : List ℕ} {s t : Result Unit Refusal} → n ≡ nodes_in f → r ≡ relation_in f → s ≡ relation_of (body_of n) b r → s ≡ t
-      → relation_of (body_of (nodes_in f)) (chart_in f) (relation_in f) ≡ t
-  relation_in_lem i k e h = rw (← i, ← j, ← k, ← e) h
+-- and the last two stages, of bytes that are bodies of the file
+pub drawn_in : (f : List ℕ) {n b l r : List ℕ} {s : Result Accepted Refusal} → n ≡ nodes_in f → b ≡ chart_in f → l ≡ labels_in f
+    → r ≡ relation_in f → s ≡ drawn_of n b l r → s ≡ drawn_of (nodes_in f) (chart_in f) (labels_in f) (relation_in f)
+drawn_in f i j k m e = rw (← i, ← j, ← k, ← m) e

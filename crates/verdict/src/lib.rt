@@ -8,7 +8,7 @@ ghost use Rattle.expression.specs.Targets.{Targets};
 ghost use Rattle.bisimulation.specs.Relations.{relation_of};
 ghost use Rattle.bisimulation.specs.Answers.{PassOutside};
 ghost use Rattle.verdict.specs.Files.{record_stage, records_of, offset_of, body_at};
-ghost use Rattle.verdict.specs.Verdicts.{verdict_of, ComeToPairs};
+ghost use Rattle.verdict.specs.Verdicts.{BothPass, drawn_of, verdict_of, ComeToPairs};
 
 use bisimulation::{Relation, Steps};
 use bits::{Set, read_u16};
@@ -144,6 +144,31 @@ fn check_relation(
     check_listed_pairs(nodes, targets, chart, &relation)
 }
 
+// The checks of the labelling and of the relation, where the expression and the chart pass. Not inlined: a function clears
+// the room of its tables as it begins, and a file that is refused before needs none.
+#[inline(never)]
+fn check_drawn(
+    nodes: &[u8],
+    targets: &[u8; 128],
+    drawn: &[u8],
+    labels: &[u8],
+    relation: &[u8],
+) -> Result<Accepted, Refusal>
+    requires { BothPass nodes.now drawn.now × Targets nodes.now targets.now }
+    ensures { result ≡ drawn_of nodes.now drawn.now labels.now relation.now }
+{
+    let mut begins = [0; 129];
+    fill_begins(drawn, &mut begins);
+    let chart = Chart::new(drawn, &begins);
+    let loops = witness::check(&chart, labels)?;
+    check_relation(nodes, targets, &chart, relation)?;
+    Ok(Accepted {
+        vertices: chart.vertices(),
+        transitions: chart.count(),
+        loops,
+    })
+}
+
 // The verdict on a yard file: what is counted of it where it is accepted, or the first check that fails.
 pub fn check(file: &[u8]) -> Result<Accepted, Refusal>
     ensures { result ≡ verdict_of file.now }
@@ -154,14 +179,5 @@ pub fn check(file: &[u8]) -> Result<Accepted, Refusal>
     expression::check_with_targets(nodes, &mut targets)?;
     let drawn = body(file, 1);
     chart::check(drawn)?;
-    let mut begins = [0; 129];
-    fill_begins(drawn, &mut begins);
-    let chart = Chart::new(drawn, &begins);
-    let loops = witness::check(&chart, body(file, 2))?;
-    check_relation(nodes, &targets, &chart, body(file, 3))?;
-    Ok(Accepted {
-        vertices: chart.vertices(),
-        transitions: chart.count(),
-        loops,
-    })
+    check_drawn(nodes, &targets, drawn, body(file, 2), body(file, 3))
 }
