@@ -119,16 +119,25 @@ impl<'a> Standing<'a> {
         Ok(targets)
     }
 
-    // 51 and 52.
-    pub(crate) fn ruled(&self, vertex: usize, level: usize) -> Result<(), Refusal>
+    // 52 of a loop whose entries lead to the targets. A function of its own: one clears the room of its tables as it begins,
+    // and 51 needs none.
+    fn judged(&self, vertex: usize, level: usize, targets: Set) -> Result<(), Refusal>
+        requires { Entered self.now.chart.now self.now.labels.now self.now.standing.now vertex level targets }
         ensures { Ruled self.now.chart.now self.now.labels.now self.now.standing.now vertex level result }
     {
-        let targets = self.entries(vertex, level, range_of(self.chart, vertex))?;
         let mut begins = [0; 129];
         fill_begins(self.chart, &mut begins);
         let chart = Chart::new(self.chart, &begins);
         Rows::new(&chart, self.standing).judge(targets, level, Stops::new(vertex))?;
         Ok(())
+    }
+
+    // 51 and 52.
+    pub(crate) fn ruled(&self, vertex: usize, level: usize) -> Result<(), Refusal>
+        ensures { Ruled self.now.chart.now self.now.labels.now self.now.standing.now vertex level result }
+    {
+        let targets = self.entries(vertex, level, range_of(self.chart, vertex))?;
+        self.judged(vertex, level, targets)
     }
 
     // 51 and 52 of the loops of a list in its order; where each goes, what is in their bodies. The walks read the

@@ -144,9 +144,8 @@ fn check_relation(
     check_listed_pairs(nodes, targets, chart, &relation)
 }
 
-// The checks of the labelling and of the relation, where the expression and the chart pass. Not inlined: a function clears
-// the room of its tables as it begins, and a file that is refused before needs none.
-#[inline(never)]
+// The checks of the labelling and of the relation, where the expression and the chart pass. A function of its own: one
+// clears the room of its tables as it begins, and a file that is refused before needs none.
 fn check_drawn(
     nodes: &[u8],
     targets: &[u8; 128],
