@@ -298,7 +298,9 @@ impl<'a> Labelling<'a> {
         }
     }
 
-    // Puts all transitions into the tables, which have nothing yet.
+    // Puts all transitions into the tables, which have nothing yet. Not inlined, so that the loops over them and what is asked
+    // of the tables after that do not share registers.
+    #[inline(never)]
     pub(crate) fn collect(
         &self,
         next: &mut [u64],
