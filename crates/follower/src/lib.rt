@@ -293,6 +293,29 @@ pub fn restart_in_place(follower: &mut Follower, chart: &[u8]) -> Result<Respons
     called_in_place(follower, chart, Call::Restart)
 }
 
+// The two functions above, called on a local: they stand for a caller that lends a follower.
+pub fn event_through(follower: Follower, chart: &[u8], action: u8) -> Moved
+    ensures { result ≡ called_on chart.now follower (event action) }
+{
+    let mut lent = follower;
+    let answer = event_in_place(&mut lent, chart, action);
+    Moved {
+        answer,
+        follower: lent,
+    }
+}
+
+pub fn restart_through(follower: Follower, chart: &[u8]) -> Moved
+    ensures { result ≡ called_on chart.now follower restart }
+{
+    let mut lent = follower;
+    let answer = restart_in_place(&mut lent, chart);
+    Moved {
+        answer,
+        follower: lent,
+    }
+}
+
 // Writes the shortest list of events after which the end is in the set of a state, of those the lowest, to the beginning of
 // the lent bytes; those past it are kept. The state is only read; from a spoilt one no list does it. A refusal changes no
 // lent byte.
