@@ -1,4 +1,7 @@
 // Answers as text, each word with a space before it.
+ghost use Rattle.std.specs.Prelude.{◌≤◌};
+ghost use Rattle.cases.specs.declared.answers.TheConstants.{TEXT};
+
 use report::Numbers;
 use std::fmt;
 
@@ -72,32 +75,39 @@ impl fmt::Display for Outcome {
 }
 
 // Bytes as two hexadecimal digits each.
-#[derive(Drop)]
-pub(crate) struct Bytes(pub(crate) Vec<u8>);
+#[derive(Clone, Copy)]
+pub(crate) struct Bytes<'a>(pub(crate) &'a [u8]);
 
-impl fmt::Display for Bytes {
+// A table and not `{:02X}`, which takes several times as long.
+static DIGITS: [&str; 16] = [
+    "0", "1", "2", "3", "4", "5", "6", "7", "8", "9", "A", "B", "C", "D", "E", "F",
+];
+
+impl fmt::Display for Bytes<'_> {
     fn fmt<W: fmt::Write>(&self, f: &mut fmt::Formatter<W>) -> fmt::Result {
         if self.0.is_empty() {
             return write!(f, " nothing");
         }
-        for byte in &self.0 {
-            write!(f, " {byte:02X}")?;
+        for byte in self.0 {
+            f.write_str(" ")?;
+            f.write_str(DIGITS[usize::from(byte / 16)])?;
+            f.write_str(DIGITS[usize::from(byte % 16)])?;
         }
         Ok(())
     }
 }
 
 // The answer to a call.
-#[derive(Drop)]
-pub(crate) enum Answer {
+#[derive(Clone, Copy)]
+pub(crate) enum Answer<'a> {
     Outcome(Outcome),
-    Bytes(Bytes),
+    Bytes(Bytes<'a>),
     // the outcome, and the bytes that were lent to write to
-    Filled(Outcome, Bytes),
+    Filled(Outcome, Bytes<'a>),
     NotUnderstood,
 }
 
-impl fmt::Display for Answer {
+impl fmt::Display for Answer<'_> {
     fn fmt<W: fmt::Write>(&self, f: &mut fmt::Formatter<W>) -> fmt::Result {
         match self {
             Answer::Outcome(outcome) => write!(f, "{outcome}"),
@@ -105,5 +115,42 @@ impl fmt::Display for Answer {
             Answer::Filled(outcome, bytes) => write!(f, "{outcome}, left{bytes}"),
             Answer::NotUnderstood => write!(f, " not understood"),
         }
+    }
+}
+
+// An answer's text is cut at so many bytes, so that a table has the same answers as ever.
+const TEXT: usize = 4096;
+
+// The text of an answer. Where it is cut, writing answers an error, so that no more is formatted.
+#[derive(Drop)]
+pub(crate) struct Text {
+    bytes: [u8; TEXT],
+    count: usize,
+    ghost fits: { count ≤ TEXT },
+}
+
+impl Text {
+    pub(crate) fn new() -> Self {
+        Text {
+            bytes: [0; TEXT],
+            count: 0,
+        }
+    }
+
+    pub(crate) fn as_bytes(&self) -> &[u8] {
+        &self.bytes[..self.count]
+    }
+}
+
+impl fmt::Write for Text {
+    fn write_str(&mut self, part: &str) -> fmt::Result {
+        for byte in part.as_bytes() {
+            if self.count == TEXT {
+                return Err(fmt::Error);
+            }
+            self.bytes[self.count] = *byte;
+            self.count += 1;
+        }
+        Ok(())
     }
 }

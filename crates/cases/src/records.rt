@@ -1,9 +1,7 @@
 // The parts that a table's lines write: the four records, and the file that they make.
-ghost use Rattle.std.specs.Prelude.{◌≡◌, ◌*◌, ◌^◌, ◌<◌, ◌≤◌, IfOk, vec_len};
-ghost use Rattle.cases.specs.declared.records.TheConstants.{MEMORY};
+ghost use Rattle.std.specs.Prelude.{◌*◌, ◌^◌, ◌<◌, ◌≤◌};
 
-use crate::words::Hex;
-use std::alloc::{AllocError, Global};
+use crate::words::write_hex;
 
 #[derive(Clone, Copy, PartialEq, Eq)]
 pub(crate) enum Part {
@@ -28,7 +26,7 @@ const KEPT: usize = 5 * ROOM;
 
 const STEPS: usize = 9 * ROOM;
 
-const MEMORY: usize = 10 * ROOM;
+pub(crate) const MEMORY: usize = 10 * ROOM;
 
 // How many bytes of a chart that a call wrote become the record: those of a line of 4,096 characters, three for each.
 const WRITTEN: usize = 4096 / 3;
@@ -60,18 +58,16 @@ pub(crate) enum Edit<'a> {
     Cut(u32),
 }
 
-// The parts stand one behind the other in one memory, each with a header, and not each in a Vec of its own: a line can
+// The parts stand one behind the other in one memory, each with a header, and not each in a room of its own: a line can
 // write past a part's end into the next one, and read there what it wrote, which may not change.
 #[derive(Drop)]
-pub(crate) struct Parts {
-    memory: Vec<u8>,
-    ghost complete: { vec_len memory ≡ MEMORY },
+pub(crate) struct Parts<'a> {
+    memory: &'a mut [u8; MEMORY],
 }
 
-impl Parts {
-    pub(crate) fn new(alloc: Global) -> Result<Parts, AllocError> {
-        let memory = vec![in alloc; 0; MEMORY]?;
-        Ok(Parts { memory })
+impl<'a> Parts<'a> {
+    pub(crate) fn new(memory: &'a mut [u8; MEMORY]) -> Self {
+        Parts { memory }
     }
 
     // How many bytes a part has.
@@ -79,7 +75,7 @@ impl Parts {
         ensures { result < ROOM }
     {
         let at = part.start();
-        usize::from(u16::from_le_bytes([self.memory[at], self.memory[at + 1]]))
+        usize::from(u16::from_le_bytes([self.byte(at), self.byte(at + 1)]))
     }
 
     // A size of 65,536 or more begins at 0 again.
@@ -94,7 +90,8 @@ impl Parts {
     // The bytes of a part.
     pub(crate) fn body(&self, part: Part) -> &[u8] {
         let at = part.start() + HEADER;
-        &self.memory[at..at + self.size(part)]
+        let memory = &self.memory[..];
+        &memory[at..at + self.size(part)]
     }
 
     // A byte of the memory, and 0 behind its end.
@@ -102,69 +99,62 @@ impl Parts {
         self.memory.get(at).copied().unwrap_or(0)
     }
 
-    // Writes bytes from a place on, of which those that the memory has no room for are dropped.
-    fn put(&mut self, at: usize, bytes: &[u8]) {
-        if at < MEMORY {
-            let count = bytes.len().min(MEMORY - at);
-            self.memory[at..at + count].copy_from_slice(&bytes[..count]);
+    // Writes a byte to the memory, and drops it behind its end.
+    fn put(&mut self, at: usize, byte: u8) {
+        if let Some(place) = self.memory.get_mut(at) {
+            *place = byte;
         }
     }
 
-    // Writes a text's bytes from a place on, and answers their number. A last digit alone shifts into the byte behind
-    // them.
-    fn write(&mut self, at: usize, text: &[u8]) -> Result<usize, AllocError>
-        requires { at < 2 ^ 40 }
-        ensures { IfOk result (λ written. written < 2 ^ 63) }
+    // Writes a text's bytes from a place on, and answers their number.
+    fn write(&mut self, at: usize, text: &[u8]) -> usize
+        ensures { result < 2 ^ 63 }
     {
-        let Hex { bytes, half } = Hex::parse(*self.memory.allocator(), text)?;
-        self.put(at, &bytes);
-        if let Some(digit) = half {
-            let end = at + bytes.len();
-            self.put(end, &[(self.byte(end) << 4) | digit]);
-        }
-        Ok(bytes.len())
+        write_hex(&mut self.memory[at.min(MEMORY)..], text)
     }
 
-    fn repeat(&mut self, at: usize, count: u32, back: u32, steps: &[u8]) -> Result<(), AllocError>
+    // Behind the last step the first one comes again.
+    fn repeat(&mut self, at: usize, count: u32, back: u32, steps: &[u8])
         requires { at < 2 ^ 40 }
     {
-        self.put(STEPS, &[0]);
-        let given = self.write(STEPS, steps)?;
+        self.put(STEPS, 0);
+        let given = self.write(STEPS, steps);
+        let mut turn = 0;
         for i in 0..count as usize {
-            let turn = if given == 0 { 0 } else { i % given };
             let earlier = self.byte((at + i).saturating_sub(back as usize));
-            self.put(at + i, &[earlier.wrapping_add(self.byte(STEPS + turn))]);
+            self.put(at + i, earlier.wrapping_add(self.byte(STEPS + turn)));
+            turn = if turn + 1 < given { turn + 1 } else { 0 };
         }
-        Ok(())
     }
 
-    pub(crate) fn edit(&mut self, part: Part, edit: Edit) -> Result<(), AllocError> {
+    pub(crate) fn edit(&mut self, part: Part, edit: Edit) {
         let start = part.start() + HEADER;
         let size = self.size(part);
         let size = match edit {
-            Edit::Replace(text) => match self.write(start, text)? {
+            Edit::Replace(text) => match self.write(start, text) {
                 0 => size,
                 written => written,
             },
-            Edit::More(text) => size + self.write(start + size, text)?,
+            Edit::More(text) => size + self.write(start + size, text),
             Edit::At(offset, text) => {
                 let offset = offset as usize;
-                size.max(offset + self.write(start + offset, text)?)
+                size.max(offset + self.write(start + offset, text))
             }
             Edit::Repeat { count, back, steps } => {
-                self.repeat(start + size, count, back, steps)?;
+                self.repeat(start + size, count, back, steps);
                 size + count as usize
             }
             Edit::Cut(count) => size.min(count as usize),
         };
         self.set_size(part, size);
-        Ok(())
     }
 
     // Bytes that a call wrote become a record.
     pub(crate) fn replace(&mut self, part: Part, bytes: &[u8]) {
         let size = bytes.len().min(WRITTEN);
-        self.put(part.start() + HEADER, &bytes[..size]);
+        let start = part.start() + HEADER;
+        let memory = &mut self.memory[..];
+        memory[start..start + size].copy_from_slice(&bytes[..size]);
         self.set_size(part, size);
     }
 

@@ -1,7 +1,5 @@
 // The words of a line, which one space parts, and the numbers and the bytes that they write.
-ghost use Rattle.std.specs.Prelude.{◌<◌};
-
-use std::alloc::{AllocError, Global};
+ghost use Rattle.std.specs.Prelude.{◌^◌, ◌<◌, IfSome};
 
 // What stands before the first such byte, and what stands behind it; all and nothing where there is none.
 pub(crate) fn split_once(text: &[u8], byte: u8) -> (&[u8], &[u8]) {
@@ -31,7 +29,9 @@ pub(crate) fn number(text: &[u8]) -> u32
 }
 
 // The value of a hexadecimal digit, of those in capitals alone.
-fn hex_digit(byte: u8) -> Option<u8> {
+fn hex_digit(byte: u8) -> Option<u8>
+    ensures { IfSome result (λ digit. digit < 16) }
+{
     match byte {
         b'0'..=b'9' => Some(byte - b'0'),
         b'A'..=b'F' => Some(byte - b'A' + 10),
@@ -39,27 +39,20 @@ fn hex_digit(byte: u8) -> Option<u8> {
     }
 }
 
-// What a text writes in hexadecimal: bytes of two digits each, and the last digit where their number is odd. All else
-// in the text is passed over.
-#[derive(Drop)]
-pub(crate) struct Hex {
-    pub(crate) bytes: Vec<u8>,
-    pub(crate) half: Option<u8>,
-}
-
-impl Hex {
-    pub(crate) fn parse(alloc: Global, text: &[u8]) -> Result<Hex, AllocError> {
-        let mut bytes = Vec::new(alloc);
-        let mut half = None;
-        for digit in text.iter().filter_map(|byte| hex_digit(*byte)) {
-            half = match half {
-                None => Some(digit),
-                Some(high) => {
-                    bytes.push((high << 4) | digit)?;
-                    None
-                }
-            };
+// Writes what a text says in hexadecimal, two digits into each byte, and answers how many bytes they fill. Those that
+// there is no room for are dropped. A last digit alone shifts into the byte behind the others, and all else in the text is
+// passed over.
+pub(crate) fn write_hex(bytes: &mut [u8], text: &[u8]) -> usize
+    ensures { result < 2 ^ 63 }
+{
+    let mut digits = 0;
+    for byte in text {
+        if let Some(digit) = hex_digit(*byte) {
+            if let Some(place) = bytes.get_mut(digits / 2) {
+                *place = (*place << 4) | digit;
+            }
+            digits += 1;
         }
-        Ok(Hex { bytes, half })
     }
+    digits / 2
 }

@@ -1,6 +1,8 @@
 // Reads a yard file on standard input and writes the verdict on it, one line.
 #![tactic(auto)]
 
+ghost use Rattle.std.specs.Prelude.{◌≤◌, length, IfOk};
+
 use report::{Accepted, Numbers, Refusal};
 use std::io;
 use std::io::Read;
@@ -25,10 +27,25 @@ fn write_verdict(rt: &impl Print, verdict: Result<Accepted, Refusal>) -> io::Res
     }
 }
 
+// Reads until the buffer is full or the input ends.
+fn read_full(input: &mut impl Read, buffer: &mut [u8]) -> io::Result<usize>
+    ensures { IfOk result (λ n. n ≤ length buffer.new) }
+{
+    let mut done = 0;
+    while done < buffer.len() {
+        let n = input.read(&mut buffer[done..])?;
+        if n == 0 {
+            break;
+        }
+        done += n;
+    }
+    Ok(done)
+}
+
 fn main(rt: HostRuntime) -> io::Result<()> {
-    let mut file = Vec::with_capacity(rt.alloc(), READ)?;
-    match rt.reader().take(READ as u64).read_to_end(&mut file) {
-        Ok(_) => write_verdict(&rt, verdict::check(&file)),
+    let mut file = [0; READ];
+    match read_full(&mut rt.reader(), &mut file) {
+        Ok(length) => write_verdict(&rt, verdict::check(&file[..length])),
         Err(_) => eprintln!(rt; "checker: standard input cannot be read"),
     }
 }
