@@ -43,7 +43,9 @@ impl<'a> Labelling<'a> {
         Ok(Labelling { chart, labels })
     }
 
-    // 31 to 35, and the number of loops, by the tables of the transitions.
+    // 31 to 35, and the number of loops, by the tables of the transitions. Not inlined, as `collect` is not: what the one
+    // needs of the stack then doesn't lie below what the other needs.
+    #[inline(never)]
     fn check_by(
         &self,
         top: usize,
