@@ -120,7 +120,8 @@ impl<'a> Standing<'a> {
     }
 
     // 52 of a loop whose entries lead to the targets. A function of its own: one clears the room of its tables as it begins,
-    // and 51 needs none.
+    // and 51 needs none. Not inlined, as `ruled_each` is not.
+    #[inline(never)]
     fn judged(&self, vertex: usize, level: usize, targets: Set) -> Result<(), Refusal>
         requires { Entered self.now.chart.now self.now.labels.now self.now.standing.now vertex level targets }
         ensures { Ruled self.now.chart.now self.now.labels.now self.now.standing.now vertex level result }

@@ -18,7 +18,7 @@ use Rattle.expression.proofs.Table.{passed→well_formed}
 use Rattle.expression.proofs.Chart.{body_vertices, body_start, body_passes}
 use Rattle.bisimulation.specs.Answers.{ListedChart, NumberedChart}
 use Rattle.report.specs.declared.Accepted.{Accepted}
-use Rattle.verdict.specs.Verdicts.{nodes_in, chart_in, labels_in, relation_in, drawn_of, ComeToPairs}
+use Rattle.verdict.specs.Verdicts.{nodes_in, chart_in, labels_in, relation_in, drawn_verdict, ComeToPairs}
 
 -- the vertices of the expression's chart: one for each node, and the end
 pub nodes_few : (s : List ℕ) → expression.check_of s ≡ Ok tt → length s / 4 + 1 ≤ 128
@@ -52,5 +52,5 @@ stage_in check q e h = ap check (sym q) ∙ sym e ∙ h
 
 -- and the last two stages, of bytes that are bodies of the file
 pub drawn_in : (f : List ℕ) {n b l r : List ℕ} {s : Result Accepted Refusal} → n ≡ nodes_in f → b ≡ chart_in f → l ≡ labels_in f
-    → r ≡ relation_in f → s ≡ drawn_of n b l r → s ≡ drawn_of (nodes_in f) (chart_in f) (labels_in f) (relation_in f)
+    → r ≡ relation_in f → s ≡ drawn_verdict n b l r → s ≡ drawn_verdict (nodes_in f) (chart_in f) (labels_in f) (relation_in f)
 drawn_in f i j k m e = rw (← i, ← j, ← k, ← m) e

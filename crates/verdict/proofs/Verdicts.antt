@@ -16,7 +16,7 @@ use Rattle.expression.specs.Body.{body_of}
 use Rattle.witness.specs.Labellings.{labelled_of}
 use Rattle.bisimulation.specs.Relations.{relation_of}
 use Rattle.verdict.specs.Files.{records_of}
-use Rattle.verdict.specs.Verdicts.{nodes_in, chart_in, labels_in, relation_in, on_loops, accepted, drawn_of, verdict_of, Fails, records_fail, nodes_fail, chart_fails, labels_fail, relation_fails}
+use Rattle.verdict.specs.Verdicts.{nodes_in, chart_in, labels_in, relation_in, on_loops, accepted, drawn_verdict, verdict_of, Fails, records_fail, nodes_fail, chart_fails, labels_fail, relation_fails}
 
 apart : {v t l : ℕ} {p : Refusal} → Err p ≢ Ok (accepted_with v t l)
 apart e = let z : ◌≡◌ {A = ℕ} 0 1 = cc in omega arith
@@ -85,7 +85,7 @@ module _ (f : List ℕ) where
 
   -- where the first three stages pass, the last two answer
   pub comes_to_drawn : records_of f ≡ Ok tt → expression.check_of (nodes_in f) ≡ Ok tt → chart.check_of (chart_in f) ≡ Ok tt
-      → verdict_of f ≡ drawn_of (nodes_in f) (chart_in f) (labels_in f) (relation_in f)
+      → verdict_of f ≡ drawn_verdict (nodes_in f) (chart_in f) (labels_in f) (relation_in f)
   unfolding verdict_of
   comes_to_drawn a b c = rw (a, b, c)
 

@@ -36,8 +36,8 @@ abbrev pub accepted : List ℕ → ℕ → Result Accepted Refusal
 accepted b loops = Ok (accepted_with (vertices_of b) (count_of b) loops)
 
 -- the last two stages: the labelling of a chart, and its relation to the chart of the nodes
-abbrev pub drawn_of : List ℕ → List ℕ → List ℕ → List ℕ → Result Accepted Refusal
-drawn_of nodes b labels relation =
+abbrev pub drawn_verdict : List ℕ → List ℕ → List ℕ → List ℕ → Result Accepted Refusal
+drawn_verdict nodes b labels relation =
     on_loops (labelled_of b labels) (λ loops.
     after (relation_of (body_of nodes) b relation)
     (accepted b loops))
@@ -48,7 +48,7 @@ verdict_of f =
     after (records_of f)
     (after (expression.check_of (nodes_in f))
     (after (chart.check_of (chart_in f))
-    (drawn_of (nodes_in f) (chart_in f) (labels_in f) (relation_in f))))
+    (drawn_verdict (nodes_in f) (chart_in f) (labels_in f) (relation_in f))))
 
 -- what the relation's stage requires: the stages of the nodes and of the chart pass
 abbrev pub BothPass : List ℕ → List ℕ → Type 0

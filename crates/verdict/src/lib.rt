@@ -8,7 +8,7 @@ ghost use Rattle.expression.specs.Targets.{Targets};
 ghost use Rattle.bisimulation.specs.Relations.{relation_of};
 ghost use Rattle.bisimulation.specs.Answers.{PassOutside};
 ghost use Rattle.verdict.specs.Files.{record_stage, records_of, offset_of, body_at};
-ghost use Rattle.verdict.specs.Verdicts.{BothPass, drawn_of, verdict_of, ComeToPairs};
+ghost use Rattle.verdict.specs.Verdicts.{BothPass, drawn_verdict, verdict_of, ComeToPairs};
 
 use bisimulation::{Relation, Steps};
 use bits::{Set, read_u16};
@@ -154,7 +154,7 @@ fn check_drawn(
     relation: &[u8],
 ) -> Result<Accepted, Refusal>
     requires { BothPass nodes.now drawn.now × Targets nodes.now targets.now }
-    ensures { result ≡ drawn_of nodes.now drawn.now labels.now relation.now }
+    ensures { result ≡ drawn_verdict nodes.now drawn.now labels.now relation.now }
 {
     let mut begins = [0; 129];
     fill_begins(drawn, &mut begins);
